@@ -1,0 +1,29 @@
+-- The lines of scripts and reports that name a command. This host's own rule.
+use Rattle.std.specs.Prelude.{ℕ, ◌==◌, if◌then◌else◌, List, [], ◌∷◌, ◌++◌, codes}
+use Rattle.std.specs.List.{flat_map}
+use Rattle.sc_types.specs.declared.command.Command.{Command}
+use Rattle.sc_types.specs.declared.command.Command.TheVariants.{Install, Start, Post, Step}
+use Rattle.sc_types.specs.declared.value.Value.{Value}
+use Rattle.sc_types.specs.declared.value.Value.TheVariants.{Text}
+
+-- a byte of a text value: `\`, `'`, line feed and tab are escaped
+abbrev pub escaped : ℕ → List ℕ
+escaped b = if b == 92 then codes "\\\\" else (if b == 39 then codes "\\'" else (if b == 10 then codes "\\n" else (if b == 9 then codes "\\t" else b ∷ [])))
+
+-- a value as a literal
+abbrev pub value_text : Value → List ℕ
+value_text (Text text) = codes "'" ++ flat_map escaped text ++ codes "'"
+
+abbrev pub pair_text : List ℕ × Value → List ℕ
+pair_text p = codes " " ++ p.0 ++ codes "=" ++ value_text p.1
+
+-- the line of a command, without its line feed
+abbrev pub command_text : Command → List ℕ
+command_text (Install name chart) = codes "chart " ++ name ++ codes " " ++ chart
+command_text (Start session chart) = codes "start " ++ session ++ codes " " ++ chart
+command_text (Post session event pairs) = codes "post " ++ session ++ codes " " ++ event ++ flat_map pair_text pairs
+command_text (Step session) = codes "step " ++ session
+
+-- a line with its line feed
+abbrev pub line : List ℕ → List ℕ
+line text = text ++ 10 ∷ []

@@ -1,0 +1,184 @@
+ghost use Rattle.std.specs.Prelude.{◌≡◌, ◌↔◌, IsTrue, IfOk};
+
+use crate::memory::NoMemory;
+use crate::plain::Plain;
+use crate::sequence::{Bytes, Sequence};
+use std::alloc::Global;
+
+/// An expression of the data model.
+#[derive(Debug, Drop)]
+pub enum Expr {
+    Text(Bytes),
+}
+
+/// The SCXML element that a node stands for.
+#[derive(Clone, Copy, Debug, PartialEq, Eq)]
+pub enum Tag {
+    Scxml,
+    State,
+    Transition,
+    OnEntry,
+    Log,
+}
+
+/// The value of an attribute of an element.
+#[derive(Debug, Drop)]
+pub enum Member {
+    /// The text as given.
+    Plain(Bytes),
+    /// The words of `event` and `target` of a transition.
+    Items(Sequence<Bytes>),
+    /// An attribute that is an expression.
+    Code(Expr),
+}
+
+/// An element: its tag, its attributes in ascending order of their names, and its child elements.
+#[derive(Debug, Drop)]
+pub struct Node {
+    pub tag: Tag,
+    pub members: Sequence<(Bytes, Member)>,
+    pub kids: Sequence<Node>,
+}
+
+/// A state chart, as the tree of its elements.
+#[derive(Debug, Drop)]
+pub struct Chart {
+    pub root: Node,
+}
+
+/// Why a text is no chart: the number of the fault, the places among `kids` that lead from the root to the
+/// element, and the name of the attribute where the fault is one of an expression.
+#[derive(Debug, Drop)]
+pub struct ChartFault {
+    pub number: u8,
+    pub path: Sequence<u32>,
+    pub member: Bytes,
+}
+
+impl Plain for Expr {
+    fn copy(&self, alloc: Global) -> Result<Expr, NoMemory> {
+        match self {
+            Expr::Text(text) => Ok(Expr::Text(text.copy(alloc)?)),
+        }
+    }
+
+    fn same(&self, other: &Expr) -> bool {
+        match (self, other) {
+            (Expr::Text(a), Expr::Text(b)) => a.same(b),
+        }
+    }
+}
+
+impl Plain for Tag {
+    fn copy(&self, _alloc: Global) -> Result<Tag, NoMemory> {
+        Ok(*self)
+    }
+
+    fn same(&self, other: &Tag) -> bool {
+        *self == *other
+    }
+}
+
+impl Plain for Member {
+    fn copy(&self, alloc: Global) -> Result<Member, NoMemory> {
+        match self {
+            Member::Plain(text) => Ok(Member::Plain(text.copy(alloc)?)),
+            Member::Items(words) => Ok(Member::Items(words.copy(alloc)?)),
+            Member::Code(code) => Ok(Member::Code(code.copy(alloc)?)),
+        }
+    }
+
+    fn same(&self, other: &Member) -> bool {
+        match (self, other) {
+            (Member::Plain(a), Member::Plain(b)) => a.same(b),
+            (Member::Items(a), Member::Items(b)) => a.same(b),
+            (Member::Code(a), Member::Code(b)) => a.same(b),
+            _ => false,
+        }
+    }
+}
+
+impl Plain for Node {
+    fn copy(&self, alloc: Global) -> Result<Node, NoMemory> {
+        copy_node(alloc, self)
+    }
+
+    fn same(&self, other: &Node) -> bool {
+        same_node(self, other)
+    }
+}
+
+#[cycle(copy)]
+fn copy_node(alloc: Global, node: &Node) -> Result<Node, NoMemory>
+    ensures { IfOk result (λ c. c ≡ node.now) }
+{
+    Ok(Node {
+        tag: node.tag,
+        members: node.members.copy(alloc)?,
+        kids: copy_nodes(alloc, node.kids.slice())?,
+    })
+}
+
+#[cycle(copy)]
+fn copy_nodes(alloc: Global, nodes: &[Node]) -> Result<Sequence<Node>, NoMemory>
+    ensures { IfOk result (λ c. c ≡ nodes.now) }
+{
+    let mut copy = Sequence::new(alloc);
+    for node in nodes {
+        copy.push(copy_node(alloc, node)?)?;
+    }
+    Ok(copy)
+}
+
+#[cycle(same)]
+fn same_node(a: &Node, b: &Node) -> bool
+    ensures { IsTrue result ↔ (a.now ≡ b.now) }
+{
+    if !a.tag.same(&b.tag) || !a.members.same(&b.members) {
+        return false;
+    }
+    same_nodes(a.kids.slice(), b.kids.slice())
+}
+
+#[cycle(same)]
+fn same_nodes(a: &[Node], b: &[Node]) -> bool
+    ensures { IsTrue result ↔ (a.now ≡ b.now) }
+{
+    if a.len() != b.len() {
+        return false;
+    }
+    for i in 0..a.len() {
+        if !same_node(&a[i], &b[i]) {
+            return false;
+        }
+    }
+    true
+}
+
+impl Plain for Chart {
+    fn copy(&self, alloc: Global) -> Result<Chart, NoMemory> {
+        Ok(Chart {
+            root: self.root.copy(alloc)?,
+        })
+    }
+
+    fn same(&self, other: &Chart) -> bool {
+        self.root.same(&other.root)
+    }
+}
+
+impl Plain for ChartFault {
+    fn copy(&self, alloc: Global) -> Result<ChartFault, NoMemory> {
+        Ok(ChartFault {
+            number: self.number,
+            path: self.path.copy(alloc)?,
+            member: self.member.copy(alloc)?,
+        })
+    }
+
+    fn same(&self, other: &ChartFault) -> bool {
+        self.number == other.number
+            && self.path.same(&other.path)
+            && self.member.same(&other.member)
+    }
+}

@@ -1,0 +1,29 @@
+//! The plain data of the host: texts, values, charts, events, sessions, commands and entries, with their limits.
+//!
+//! A list in a field is a [`Sequence`], which contracts see as the list of its items, so that a copy of any of
+//! these types equals what it copies.
+#![tactic(auto)]
+
+mod chart;
+mod command;
+mod event;
+mod history;
+mod host;
+mod memory;
+mod plain;
+mod sequence;
+mod session;
+mod text;
+mod value;
+
+pub use chart::{Chart, ChartFault, Expr, Member, Node, Tag};
+pub use command::{Command, Refusal, Reply};
+pub use event::{Data, Event, Kind};
+pub use history::{Delivery, Entry, LogLine, Who};
+pub use host::{ChartImage, HostImage, InvokerImage, SessionImage, TimerImage, To};
+pub use memory::NoMemory;
+pub use plain::Plain;
+pub use sequence::{Bytes, Sequence};
+pub use session::{Cue, CueName, How, Invoked, Phase, SessionState};
+pub use text::{Name, PlainName, Unfit, Word};
+pub use value::{PairList, Value};
