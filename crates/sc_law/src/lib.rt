@@ -1,2 +1,16 @@
-//! The definitions that the host is proved against, and beside them the plain program that computes them.
+//! The definitions that the host is proved against, in `specs/`, and beside them the plain program that
+//! computes them: slow, and there to be read.
 #![tactic(auto)]
+
+
+
+
+mod run_state;
+
+
+mod tree;
+
+
+pub use run_state::{Effect, RunState, TurnResult};
+pub use tree::{Path, Transition, Tree};
+

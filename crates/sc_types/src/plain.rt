@@ -54,6 +54,16 @@ impl Plain for u64 {
     }
 }
 
+impl Plain for usize {
+    fn copy(&self, _alloc: Global) -> Result<usize, NoMemory> {
+        Ok(*self)
+    }
+
+    fn same(&self, other: &usize) -> bool {
+        *self == *other
+    }
+}
+
 impl Plain for u128 {
     fn copy(&self, _alloc: Global) -> Result<u128, NoMemory> {
         Ok(*self)

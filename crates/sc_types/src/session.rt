@@ -1,4 +1,4 @@
-use crate::event::Event;
+use crate::event::{Data, Event};
 use crate::memory::NoMemory;
 use crate::plain::Plain;
 use crate::sequence::{Bytes, Sequence};
@@ -9,6 +9,9 @@ use std::alloc::Global;
 /// How a session ended.
 #[derive(Debug, Drop)]
 pub enum How {
+    /// By a top-level final state, with its done data.
+    Final(Data),
+    Cancelled,
     /// A turn would have needed more rounds than the chart's limit.
     Runaway,
 }
@@ -79,15 +82,19 @@ pub enum CueName {
 }
 
 impl Plain for How {
-    fn copy(&self, _alloc: Global) -> Result<How, NoMemory> {
+    fn copy(&self, alloc: Global) -> Result<How, NoMemory> {
         match self {
+            How::Final(data) => Ok(How::Final(data.copy(alloc)?)),
+            How::Cancelled => Ok(How::Cancelled),
             How::Runaway => Ok(How::Runaway),
         }
     }
 
     fn same(&self, other: &How) -> bool {
         match (self, other) {
-            (How::Runaway, How::Runaway) => true,
+            (How::Final(a), How::Final(b)) => a.same(b),
+            (How::Cancelled, How::Cancelled) | (How::Runaway, How::Runaway) => true,
+            _ => false,
         }
     }
 }

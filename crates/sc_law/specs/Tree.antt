@@ -1,0 +1,114 @@
+-- The states of a chart (SCXML 3.1 to 3.11), named by their places in document order, from 0. What stands
+-- where is read off the paths. The root is above every state; a number past the states names it.
+use Rattle.std.specs.Prelude.{ℕ, ◌+◌, ◌==◌, Bool, true, false, not, ◌&&◌, if◌then◌else◌, nat_eq, nat_lt, Option, Some, None, option_map, option_and_then, unwrap_or, List, [], ◌∷◌, ◌++◌, length, reverse, filter, find, position, slice_get, codes}
+use Rattle.std.specs.Option.{option_map_or}
+use Rattle.std.specs.List.{list_any, starts_with}
+use Rattle.std.specs.Str.{bytes_eq}
+use Rattle.sc_types.specs.declared.chart.Chart.{Chart}
+use Rattle.sc_types.specs.declared.chart.Member.{Member}
+use Rattle.sc_types.specs.declared.chart.Member.TheVariants.{Plain, Items, Code}
+use Rattle.sc_types.specs.declared.chart.Expr.{Expr}
+use Rattle.sc_types.specs.declared.chart.Node.{Node, out-Node}
+use Rattle.sc_types.specs.declared.chart.Node.TheOpen.{Node-F}
+use Rattle.sc_types.specs.declared.chart.Node.TheFolds.{fold-Node}
+use Rattle.sc_types.specs.declared.chart.Tag.{Tag}
+use Rattle.sc_types.specs.declared.chart.Tag.TheVariants.{Scxml, State, Transition, OnEntry, Log}
+
+-- the places among child elements that lead from the root to an element
+abbrev pub Path : Type 0
+Path = List ℕ
+
+-- a state's own path, and nothing of another element
+abbrev pub own_path : Tag → Path → List Path
+own_path State path = path ∷ []
+own_path Scxml path = []
+own_path Transition path = []
+own_path OnEntry path = []
+own_path Log path = []
+
+abbrev pub kids : Node → List Node
+kids n = (out-Node n).kids
+
+-- the paths of the states below an element at this path, from what each child element gives at its own
+abbrev pub paths_of_kids : Path → ℕ → List (Path → List Path) → List Path
+paths_of_kids path place [] = []
+paths_of_kids path place (kid ∷ kids) = kid (path ++ place ∷ []) ++ paths_of_kids path (place + 1) kids
+
+-- the path of an element that is a state, and then those of the states below it
+abbrev pub paths_step : Node-F (Path → List Path) → Path → List Path
+paths_step n path = own_path n.tag path ++ paths_of_kids path 0 n.kids
+
+unfoldable pub paths_from : Node → Path → List Path
+paths_from n = fold-Node (Path → List Path) paths_step n
+
+-- the paths of the states, in document order
+abbrev pub state_paths : Chart → List Path
+state_paths c = paths_from c.root []
+
+abbrev pub state_count : Chart → ℕ
+state_count c = length (state_paths c)
+
+abbrev pub node_at : Node → Path → Option Node
+node_at n [] = Some n
+node_at n (place ∷ path) = option_and_then (λ kid. node_at kid path) (slice_get (kids n) place)
+
+abbrev pub path_of : Chart → ℕ → Path
+path_of c s = unwrap_or (slice_get (state_paths c) s) []
+
+-- the element of a state, or of the root
+abbrev pub node_of : Chart → ℕ → Option Node
+node_of c s = node_at c.root (path_of c s)
+
+-- the child elements of a state
+abbrev pub kids_of : Chart → ℕ → List Node
+kids_of c s = option_map_or kids (node_of c s) []
+
+-- a path leads on from another
+abbrev pub leads_on : Path → Path → Bool
+leads_on above path = nat_lt (length above) (length path) && starts_with nat_eq path above
+
+-- a state is a proper descendant of another, or of the root
+abbrev pub is_below : Chart → ℕ → ℕ → Bool
+is_below c s above = leads_on (path_of c above) (path_of c s)
+
+-- the numbers of the states whose path passes a test
+abbrev pub numbers_where : (Path → Bool) → ℕ → List Path → List ℕ
+numbers_where test s [] = []
+numbers_where test s (path ∷ paths) = if test path then s ∷ numbers_where test (s + 1) paths else numbers_where test (s + 1) paths
+
+-- the proper ancestors of a state below the root, from the nearest
+abbrev pub ancestors : Chart → ℕ → List ℕ
+ancestors c s = reverse (numbers_where (λ path. leads_on path (path_of c s)) 0 (state_paths c))
+
+-- a state without a child state is atomic
+abbrev pub is_atomic : Chart → ℕ → Bool
+is_atomic c s = not (list_any (λ path. leads_on (path_of c s) path) (state_paths c))
+
+abbrev pub member : List ℕ → Node → Option Member
+member name n = option_map (λ (m : List ℕ × Member). m.1) (find (λ (m : List ℕ × Member). bytes_eq m.0 name) (out-Node n).members)
+
+-- the text, the words or the expression of an attribute of that form
+abbrev pub plain_text : Member → Option (List ℕ)
+plain_text (Plain text) = Some text
+plain_text (Items words) = None
+plain_text (Code code) = None
+
+abbrev pub words_of : Member → List (List ℕ)
+words_of (Items words) = words
+words_of (Plain text) = []
+words_of (Code code) = []
+
+abbrev pub code_of : Member → Option Expr
+code_of (Code code) = Some code
+code_of (Plain text) = None
+code_of (Items words) = None
+
+abbrev pub id_of : Node → Option (List ℕ)
+id_of n = option_and_then plain_text (member (codes "id") n)
+
+-- the state of that id
+abbrev pub has_id : Chart → List ℕ → Path → Bool
+has_id c id path = option_map_or (λ own. bytes_eq own id) (option_and_then id_of (node_at c.root path)) false
+
+abbrev pub state_named : Chart → List ℕ → Option ℕ
+state_named c id = position (has_id c id) (state_paths c)
