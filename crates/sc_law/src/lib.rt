@@ -2,15 +2,13 @@
 //! computes them: slow, and there to be read.
 #![tactic(auto)]
 
-
-
-
+mod content;
+mod entry;
+mod microstep;
 mod run_state;
-
-
+mod selection;
+mod sets;
 mod tree;
-
 
 pub use run_state::{Effect, RunState, TurnResult};
 pub use tree::{Path, Transition, Tree};
-
