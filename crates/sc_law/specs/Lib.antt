@@ -5,3 +5,4 @@ pub mod Microstep
 pub mod Selection
 pub mod Sets
 pub mod Tree
+pub mod Turn

@@ -4,11 +4,15 @@
 
 mod content;
 mod entry;
+mod interpreter;
 mod microstep;
 mod run_state;
 mod selection;
 mod sets;
 mod tree;
 
+
+pub use entry::EntryTriple;
 pub use run_state::{Effect, RunState, TurnResult};
 pub use tree::{Path, Transition, Tree};
+pub use interpreter::turn;
