@@ -1,2 +1,3 @@
+pub mod FlatChart
 pub mod Text
 pub mod formers
