@@ -1,3 +1,4 @@
 pub mod Descriptors
+pub mod FlatChart
 pub mod Text
 pub mod formers

@@ -37,3 +37,7 @@ pub record IsPlainName (text : List ℕ) : Type 0 where
   pub first : IsTrue (starts_with_letter text)
   pub each : IsTrue (list_all (λ b. is_letter b || is_digit b) text)
   pub no_keyword : IsTrue (not (is_keyword text))
+
+-- `IsPlainName` as a test
+abbrev pub is_plain_name : List ℕ → Bool
+is_plain_name text = nat_le (length text) 128 && starts_with_letter text && list_all (λ b. is_letter b || is_digit b) text && not (is_keyword text)

@@ -25,5 +25,5 @@ pub use memory::NoMemory;
 pub use plain::Plain;
 pub use sequence::{Bytes, Sequence};
 pub use session::{Cue, CueName, How, Invoked, Phase, SessionState};
-pub use text::{Name, PlainName, Unfit, Word};
+pub use text::{Name, PlainName, Unfit, Word, is_plain_name};
 pub use value::{PairList, Value};

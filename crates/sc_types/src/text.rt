@@ -1,6 +1,6 @@
 ghost use Rattle.std.specs.Prelude.{◌≡◌, ◌↔◌, ◌==◌, ◌||◌, not, IsTrue, IfOk};
 ghost use Rattle.std.specs.List.{list_all};
-ghost use Rattle.sc_types.specs.Text.{is_name_byte, is_letter, is_digit, is_keyword, starts_with_letter, IsName, IsWord, IsPlainName};
+ghost use Rattle.sc_types.specs.Text.{is_name_byte, is_letter, is_digit, is_keyword, starts_with_letter, is_plain_name, IsName, IsWord, IsPlainName};
 
 use crate::memory::NoMemory;
 use crate::plain::Plain;
@@ -144,8 +144,10 @@ fn is_keyword(text: &[u8]) -> bool
     matches!(text, b"true" | b"false" | b"In" | b"len" | b"text")
 }
 
-fn is_plain_name(text: &[u8]) -> bool
-    ensures { IsTrue result ↔ IsPlainName text.now }
+/// Whether these bytes have the form of a [`PlainName`].
+pub fn is_plain_name(text: &[u8]) -> bool
+    ensures value { result ≡ is_plain_name text.now }
+    ensures form { IsTrue result ↔ IsPlainName text.now }
 {
     if text.len() > 128 || !starts_with_letter(text) || !has_plain_name_bytes(text) {
         return false;

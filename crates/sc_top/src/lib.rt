@@ -1,0 +1,4 @@
+//! The host as a program: reads a script, runs it, and writes the report.
+#![tactic(auto)]
+
+mod chart_reader;
