@@ -1,7 +1,11 @@
 pub mod Content
 pub mod Entry
+pub mod History
+pub mod Host
 pub mod Lines
 pub mod Microstep
+pub mod Report
+pub mod Run
 pub mod Selection
 pub mod Sets
 pub mod Tree
