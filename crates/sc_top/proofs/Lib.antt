@@ -1,2 +1,9 @@
 pub mod Charts
+pub mod Cuts
+pub mod Forms
+pub mod Lines
 pub mod Members
+pub mod Names
+pub mod Places
+pub mod Posts
+pub mod Prefixes

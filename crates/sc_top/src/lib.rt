@@ -2,3 +2,4 @@
 #![tactic(auto)]
 
 mod chart_reader;
+mod script_reader;
