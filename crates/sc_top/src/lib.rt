@@ -2,4 +2,5 @@
 #![tactic(auto)]
 
 mod chart_reader;
+mod host;
 mod script_reader;

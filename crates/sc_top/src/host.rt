@@ -1,0 +1,268 @@
+ghost use Rattle.std.specs.Prelude.{◌≡◌, ◌+◌, ◌^◌, ◌<◌, ◌++◌, [], ◌∷◌, ℕ, List, Some, option_map, is_some, find, slice_get, IfSome, IfOk, OnOk, length};
+ghost use Rattle.std.specs.List.{list_any};
+ghost use Rattle.std.specs.Option.{option_copied};
+ghost use Rattle.sc_law.specs.Host.{empty_host, is_too_long, has_chart, chart_named, bare_chart, session_place, session_named, not_read, fresh_state, fresh_session, has_slash, pairs_data, posted_event, cue_of, name_of, ready};
+
+use std::alloc::Global;
+
+use sc_law::{Tree, turn};
+use sc_types::{
+    Bytes, Chart, ChartFault, ChartImage, Command, Cue, CueName, Data, Delivery, Event, HostImage,
+    Kind, LogLine, NoMemory, Node, PairList, Phase, Plain, Refusal, Reply, Sequence, SessionImage,
+    SessionState, Tag, Word,
+};
+
+use crate::chart_reader::read_flat_chart;
+
+/// The host: its plain data, and the tree of each installed chart at that chart's place.
+#[derive(Debug, Drop)]
+pub struct Host {
+    pub image: HostImage,
+    pub trees: Sequence<Tree>,
+}
+
+/// What a command was answered.
+#[derive(Debug, Drop)]
+pub struct Answered {
+    pub reply: Reply,
+    pub logs: Sequence<LogLine>,
+    pub sent: Sequence<Delivery>,
+}
+
+impl Answered {
+    fn new(alloc: Global, reply: Reply, logs: Sequence<LogLine>) -> Answered
+        ensures reply { result.reply ≡ reply }
+        ensures logs { result.logs ≡ logs }
+        ensures sent { result.sent ≡ [] }
+    {
+        Answered {
+            reply,
+            logs,
+            sent: Sequence::new(alloc),
+        }
+    }
+}
+
+impl Host {
+    ghost use Rattle.sc_law.specs.Host.{install, start, post, step, answer};
+    ghost use Rattle.sc_top.specs.Held.{IsHeld, DoesAnswer};
+
+    pub fn new(alloc: Global) -> Host
+        ensures image { result.image ≡ empty_host }
+        ensures held { IsHeld result }
+    {
+        Host {
+            image: HostImage {
+                clock: 0,
+                commands: 0,
+                events: 0,
+                delayed: 0,
+                charts: Sequence::new(alloc),
+                sessions: Sequence::new(alloc),
+                timers: Sequence::new(alloc),
+            },
+            trees: Sequence::new(alloc),
+        }
+    }
+
+    fn install(
+        &mut self,
+        alloc: Global,
+        name: &Word,
+        text: &Bytes,
+    ) -> Result<Answered, NoMemory>
+        requires held { IsHeld self.old }
+        requires room { self.old.image.commands + 1 < 2 ^ 64 }
+        ensures { IfOk result (DoesAnswer (install self.old.image name.now text.now) self.new) }
+    {
+        if name.bytes().len() > 64 {
+            return Ok(refused(alloc, Refusal::TooLong(2)));
+        }
+        if has_chart(&self.image, name.bytes()) {
+            return Ok(refused(alloc, Refusal::NameTaken));
+        }
+        let Some(chart) = read_flat_chart(alloc, text.slice())? else {
+            return Ok(refused(alloc, Refusal::BadChart(not_read(alloc))));
+        };
+        self.trees.push(Tree::new(alloc, chart)?)?;
+        self.image.charts.push(ChartImage {
+            name: name.copy(alloc)?,
+            text: text.copy(alloc)?,
+        })?;
+        self.image.commands += 1;
+        Ok(Answered::new(alloc, Reply::Installed, Sequence::new(alloc)))
+    }
+
+    fn start(
+        &mut self,
+        alloc: Global,
+        session: &Word,
+        chart: &Word,
+    ) -> Result<Answered, NoMemory>
+        requires held { IsHeld self.old }
+        requires room { self.old.image.commands + 1 < 2 ^ 64 }
+        ensures { IfOk result (DoesAnswer (start self.old.image session.now chart.now) self.new) }
+    {
+        if session.bytes().len() > 64 {
+            return Ok(refused(alloc, Refusal::TooLong(1)));
+        }
+        if chart.bytes().len() > 64 {
+            return Ok(refused(alloc, Refusal::TooLong(2)));
+        }
+        if has_slash(session.bytes()) {
+            return Ok(refused(alloc, Refusal::BadName));
+        }
+        if !has_chart(&self.image, chart.bytes()) {
+            return Ok(refused(alloc, Refusal::NoChart));
+        }
+        if session_place(&self.image, session.bytes()).is_some() {
+            return Ok(refused(alloc, Refusal::NameTaken));
+        }
+        self.image
+            .sessions
+            .push(fresh_session(alloc, session, chart)?)?;
+        self.image.commands += 1;
+        Ok(Answered::new(alloc, Reply::Started, Sequence::new(alloc)))
+    }
+
+    fn post(
+        &mut self,
+        alloc: Global,
+        session: &Word,
+        name: &Word,
+        pairs: &PairList,
+    ) -> Result<Answered, NoMemory>
+        requires held { IsHeld self.old }
+        requires room { self.old.image.commands + 1 < 2 ^ 64 }
+        requires numbers { self.old.image.events + 1 < 2 ^ 128 }
+        ensures { IfOk result (DoesAnswer (post self.old.image session.now name.now pairs.now) self.new) }
+    {
+        if name.bytes().len() > 256 {
+            return Ok(refused(alloc, Refusal::TooLong(3)));
+        }
+        let Some((place, found)) = session_named(&self.image, session.bytes()) else {
+            return Ok(refused(alloc, Refusal::NoSession));
+        };
+        if let Phase::Ended(how) = &found.state.phase {
+            return Ok(refused(alloc, Refusal::Ended(how.copy(alloc)?)));
+        }
+        let number = self.image.events + 1;
+        let event = posted_event(alloc, number, name, pairs)?;
+        let receiver = self.image.sessions.item_mut(place);
+        receiver.queued.push(event)?;
+        self.image.events = number;
+        self.image.commands += 1;
+        Ok(Answered::new(alloc, Reply::Posted(number), Sequence::new(alloc)))
+    }
+}
+
+fn refused(alloc: Global, why: Refusal) -> Answered
+    ensures reply { result.reply ≡ Reply.Refused why }
+    ensures logs { result.logs ≡ [] }
+    ensures sent { result.sent ≡ [] }
+{
+    Answered::new(alloc, Reply::Refused(why), Sequence::new(alloc))
+}
+
+fn has_chart(image: &HostImage, name: &[u8]) -> bool
+    ensures { result ≡ has_chart image.now name.now }
+{
+    image.charts.slice().iter().any(|c| c.name.bytes() == name)
+}
+
+fn session_place(image: &HostImage, name: &[u8]) -> Option<usize>
+    ensures { result ≡ session_place image.now name.now }
+{
+    image
+        .sessions
+        .slice()
+        .iter()
+        .position(|s| s.state.session.bytes() == name)
+}
+
+fn session_named<'a>(image: &'a HostImage, name: &[u8]) -> Option<(usize, &'a SessionImage)>
+    ensures value { option_map (λ p. (p.0, p.1.now)) result ≡ session_named image.now name.now }
+    ensures within { IfSome result (λ p. p.0 < length image.now.sessions) }
+    ensures at { IfSome result (λ p. slice_get image.now.sessions p.0 ≡ Some p.1.now) }
+{
+    let place = session_place(image, name)?;
+    let session = image.sessions.get(place)?;
+    Some((place, session))
+}
+
+fn not_read(alloc: Global) -> ChartFault
+    ensures { result ≡ not_read }
+{
+    ChartFault {
+        number: 1,
+        path: Sequence::new(alloc),
+        member: Sequence::new(alloc),
+    }
+}
+
+fn has_slash(name: &[u8]) -> bool
+    ensures { result ≡ has_slash name.now }
+{
+    name.iter().any(|b| *b == b'/')
+}
+
+fn fresh_state(alloc: Global, session: &Word, chart: &Word) -> Result<SessionState, NoMemory>
+    ensures { IfOk result (λ s. s ≡ fresh_state session.now chart.now) }
+{
+    Ok(SessionState {
+        session: session.copy(alloc)?,
+        chart: chart.copy(alloc)?,
+        phase: Phase::Fresh,
+        configuration: Sequence::new(alloc),
+        values: Sequence::new(alloc),
+        entered: Sequence::new(alloc),
+        histories: Sequence::new(alloc),
+        internal: Sequence::new(alloc),
+        invokes: Sequence::new(alloc),
+        bound: None,
+        params: Sequence::new(alloc),
+        sends: 0,
+        born: 0,
+    })
+}
+
+fn fresh_session(alloc: Global, session: &Word, chart: &Word) -> Result<SessionImage, NoMemory>
+    ensures { IfOk result (λ s. s ≡ fresh_session session.now chart.now) }
+{
+    Ok(SessionImage {
+        state: fresh_state(alloc, session, chart)?,
+        queued: Sequence::new(alloc),
+        flagged: false,
+        invoker: None,
+        depth: 1,
+    })
+}
+
+fn pairs_data(alloc: Global, pairs: &PairList) -> Result<Data, NoMemory>
+    ensures { IfOk result (λ d. d ≡ pairs_data pairs.now) }
+{
+    if pairs.is_empty() {
+        return Ok(Data::Absent);
+    }
+    Ok(Data::Pairs(pairs.copy(alloc)?))
+}
+
+fn posted_event(
+    alloc: Global,
+    number: u128,
+    name: &Word,
+    pairs: &PairList,
+) -> Result<Event, NoMemory>
+    ensures { IfOk result (λ e. e ≡ posted_event number name.now pairs.now) }
+{
+    Ok(Event {
+        number,
+        name: name.name(alloc)?,
+        kind: Kind::External,
+        sendid: Sequence::new(alloc),
+        origin: Sequence::new(alloc),
+        origintype: Sequence::new(alloc),
+        invokeid: Sequence::new(alloc),
+        payload: pairs_data(alloc, pairs)?,
+    })
+}
