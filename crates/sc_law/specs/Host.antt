@@ -65,8 +65,14 @@ abbrev pub bare_chart : Chart
 bare_chart = chart_of []
 
 -- the chart of a session; it is always among the charts
+abbrev pub chart_place : HostImage → List ℕ → Option ℕ
+chart_place g name = position (is_chart_named name) g.charts
+
+abbrev pub chart_at : HostImage → ℕ → Option Chart
+chart_at g place = option_and_then (λ (chart : ChartImage). flat_chart_of chart.text) (slice_get g.charts place)
+
 abbrev pub chart_named : HostImage → List ℕ → Chart
-chart_named g name = unwrap_or (option_and_then (λ (chart : ChartImage). flat_chart_of chart.text) (find (is_chart_named name) g.charts)) bare_chart
+chart_named g name = unwrap_or (option_and_then (chart_at g) (chart_place g name)) bare_chart
 
 abbrev pub is_session_named : List ℕ → SessionImage → Bool
 is_session_named name s = bytes_eq s.state.session name

@@ -1,6 +1,7 @@
 pub mod Charts
 pub mod Cuts
 pub mod Forms
+pub mod HostLemmas
 pub mod Lines
 pub mod Members
 pub mod Names

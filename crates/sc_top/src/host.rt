@@ -1,11 +1,12 @@
-ghost use Rattle.std.specs.Prelude.{◌≡◌, ◌+◌, ◌^◌, ◌<◌, ◌++◌, [], ◌∷◌, ℕ, List, Some, option_map, is_some, find, slice_get, IfSome, IfOk, OnOk, length};
+ghost use Rattle.std.specs.Prelude.{◌≡◌, ◌+◌, ◌^◌, ◌<◌, ◌++◌, [], ◌∷◌, ℕ, List, Some, option_map, is_some, find, unwrap_or, slice_get, IfSome, IfOk, OnOk, length};
 ghost use Rattle.std.specs.List.{list_any};
 ghost use Rattle.std.specs.Option.{option_copied};
-ghost use Rattle.sc_law.specs.Host.{empty_host, is_too_long, has_chart, chart_named, bare_chart, session_place, session_named, not_read, fresh_state, fresh_session, has_slash, pairs_data, posted_event, cue_of, name_of, ready};
+ghost use Rattle.sc_law.specs.Host.{empty_host, is_too_long, has_chart, chart_place, chart_named, bare_chart, session_place, session_named, not_read, fresh_state, fresh_session, has_slash, pairs_data, posted_event, waiting_cue, cue_of, name_of, queue_left, queue_of_phase, ready};
+ghost use Rattle.sc_law.specs.Turn.{turn};
 
 use std::alloc::Global;
 
-use sc_law::{Tree, turn};
+use sc_law::{Tree, TurnResult, turn};
 use sc_types::{
     Bytes, Chart, ChartFault, ChartImage, Command, Cue, CueName, Data, Delivery, Event, HostImage,
     Kind, LogLine, NoMemory, Node, PairList, Phase, Plain, Refusal, Reply, Sequence, SessionImage,
@@ -154,6 +155,162 @@ impl Host {
         self.image.commands += 1;
         Ok(Answered::new(alloc, Reply::Posted(number), Sequence::new(alloc)))
     }
+
+    fn step(&mut self, alloc: Global, session: &Word) -> Result<Answered, NoMemory>
+        requires held { IsHeld self.old }
+        requires room { self.old.image.commands + 1 < 2 ^ 64 }
+        ensures { IfOk result (DoesAnswer (step self.old.image session.now) self.new) }
+    {
+        let Some((place, found)) = session_named(&self.image, session.bytes()) else {
+            return Ok(refused(alloc, Refusal::NoSession));
+        };
+        if let Phase::Ended(how) = &found.state.phase {
+            return Ok(refused(alloc, Refusal::Ended(how.copy(alloc)?)));
+        }
+        let Some(cue) = cue_of(alloc, found)? else {
+            return Ok(refused(alloc, Refusal::Idle));
+        };
+        let turned = self.turn_of(alloc, found, &cue)?;
+        let stepping = self.image.sessions.item_mut(place);
+        finish_step(alloc, stepping, &cue, turned.after);
+        self.image.commands += 1;
+        Ok(Answered::new(alloc, Reply::Stepped(name_of(&cue)), turned.logs))
+    }
+
+    /// The turn of a session with this cue.
+    fn turn_of(&self, alloc: Global, session: &SessionImage, cue: &Cue) -> Result<TurnResult, NoMemory>
+        requires { IsHeld self.now }
+        ensures { IfOk result (λ t. t ≡ turn (chart_named self.now.image session.now.state.chart) session.now.state cue.now) }
+    {
+        match self.tree_named(session.state.chart.bytes()) {
+            Some(tree) => turn(alloc, tree, &session.state, cue),
+            None => turn(alloc, &bare_tree(alloc)?, &session.state, cue),
+        }
+    }
+
+    /// The tree of an installed chart.
+    fn tree_named(&self, name: &[u8]) -> Option<&Tree>
+        requires { IsHeld self.now }
+        ensures { unwrap_or (option_copied result) bare_chart ≡ chart_named self.now.image name.now }
+    {
+        let place = chart_place(&self.image, name)?;
+        self.trees.get(place)
+    }
+
+    /// Does a command, as the host machine answers it. After want of memory the host is to be given up.
+    #[tactic(auto, unfolding(sc_law::specs::Host::answer))]
+    pub fn answer(&mut self, alloc: Global, command: &Command) -> Result<Answered, NoMemory>
+        requires held { IsHeld self.old }
+        requires room { self.old.image.commands + 1 < 2 ^ 64 }
+        requires numbers { self.old.image.events + 1 < 2 ^ 128 }
+        ensures { IfOk result (DoesAnswer (answer self.old.image command.now) self.new) }
+    {
+        match command {
+            Command::Install { name, chart } => self.install(alloc, name, chart),
+            Command::Start { session, chart } => self.start(alloc, session, chart),
+            Command::Post {
+                session,
+                event,
+                pairs,
+            } => self.post(alloc, session, event, pairs),
+            Command::Step { session } => self.step(alloc, session),
+        }
+    }
+
+    /// The ready session that was started first.
+    pub fn ready(&self, alloc: Global) -> Result<Option<Word>, NoMemory>
+        ensures { IfOk result (λ r. r ≡ ready self.now.image) }
+    {
+        match first_ready(&self.image) {
+            Some(session) => Ok(Some(session.state.session.copy(alloc)?)),
+            None => Ok(None),
+        }
+    }
+}
+
+fn chart_place(image: &HostImage, name: &[u8]) -> Option<usize>
+    ensures { result ≡ chart_place image.now name.now }
+{
+    image.charts.slice().iter().position(|c| c.name.bytes() == name)
+}
+
+fn bare_tree(alloc: Global) -> Result<Tree, NoMemory>
+    ensures { IfOk result (λ t. t ≡ bare_chart) }
+{
+    let root = Node {
+        tag: Tag::Scxml,
+        members: Sequence::new(alloc),
+        kids: Sequence::new(alloc),
+    };
+    Tree::new(alloc, Chart { root })
+}
+
+fn has_cue(session: &SessionImage) -> bool
+    ensures { result ≡ is_some (cue_of session.now) }
+{
+    match &session.state.phase {
+        Phase::Fresh => true,
+        Phase::Running => !session.state.internal.is_empty() || !session.queued.is_empty(),
+        Phase::Ended(_) => false,
+    }
+}
+
+fn first_ready(image: &HostImage) -> Option<&SessionImage>
+    ensures { option_copied result ≡ find (λ s. is_some (cue_of s)) image.now.sessions }
+{
+    image.sessions.slice().iter().find(|s| has_cue(s))
+}
+
+fn cue_of(alloc: Global, session: &SessionImage) -> Result<Option<Cue>, NoMemory>
+    ensures { IfOk result (λ cue. cue ≡ cue_of session.now) }
+{
+    match &session.state.phase {
+        Phase::Fresh => Ok(Some(Cue::Fresh)),
+        Phase::Running => waiting_cue(alloc, session.state.internal.slice(), session.queued.slice()),
+        Phase::Ended(_) => Ok(None),
+    }
+}
+
+fn waiting_cue(alloc: Global, internal: &[Event], queued: &[Event]) -> Result<Option<Cue>, NoMemory>
+    ensures { IfOk result (λ cue. cue ≡ waiting_cue internal.now queued.now) }
+{
+    match (internal, queued) {
+        ([], []) => Ok(None),
+        ([], [front, ..]) => Ok(Some(Cue::External(front.copy(alloc)?))),
+        ([_, ..], _) => Ok(Some(Cue::Resume)),
+    }
+}
+
+fn name_of(cue: &Cue) -> CueName
+    ensures { result ≡ name_of cue.now }
+{
+    match cue {
+        Cue::Fresh => CueName::Fresh,
+        Cue::Resume => CueName::Resume,
+        Cue::External(event) => CueName::External(event.number),
+    }
+}
+
+fn leave_queue(cue: &Cue, queued: &mut Sequence<Event>)
+    ensures { queued.new ≡ queue_left cue.now queued.old }
+{
+    match cue {
+        Cue::External(_) => {
+            let _ = queued.pop_front();
+        }
+        _ => {}
+    }
+}
+
+/// Puts the state after a turn in: its cue leaves the queue, and a session that has ended loses its queue.
+fn finish_step(alloc: Global, session: &mut SessionImage, cue: &Cue, after: SessionState)
+    ensures { session.new ≡ record session.old { state = after; queued = queue_of_phase after.phase (queue_left cue.now session.old.queued) } }
+{
+    leave_queue(cue, &mut session.queued);
+    if let Phase::Ended(_) = &after.phase {
+        session.queued = Sequence::new(alloc);
+    }
+    session.state = after;
 }
 
 fn refused(alloc: Global, why: Refusal) -> Answered
