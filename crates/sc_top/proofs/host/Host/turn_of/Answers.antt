@@ -17,4 +17,4 @@ returns-in_ok-bare_tree-in-None c =
     let s = c.args.session.now.state in
     let e : bare_chart ≡ chart_named c.args.self.now.image s.chart = search rules in
     let IsTurnOf = λ (k : Chart). IfOk c.turn-in-None-2.result (λ t. t ≡ turn k s c.args.cue.now) in
-    ?
+    subst IsTurnOf (c.in_ok-bare_tree-in-None.ensures ∙ e) c.turn-in-None-2.ensures
