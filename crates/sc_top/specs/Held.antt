@@ -1,7 +1,8 @@
 -- The host as this program holds it: each installed chart has its tree beside it. This host's own rule.
-use Rattle.std.specs.Prelude.{◌≡◌, Some, List, map}
+use Rattle.std.specs.Prelude.{◌≡◌, ◌+◌, ◌≤◌, Some, List, map}
 use Rattle.sc_types.specs.FlatChart.{flat_chart_of}
 use Rattle.sc_types.specs.declared.host.ChartImage.{ChartImage}
+use Rattle.sc_types.specs.declared.host.HostImage.{HostImage}
 use Rattle.sc_law.specs.Host.{Answer}
 use Rattle.sc_top.specs.declared.host.Answered.{Answered}
 use Rattle.sc_top.specs.declared.host.Host.{Host}
@@ -17,3 +18,8 @@ pub record DoesAnswer (a : Answer) (h : Host) (told : Answered) : Type 0 where
   pub reply : told.reply ≡ a.reply
   pub logs : told.logs ≡ a.logs
   pub sent : told.sent ≡ a.sent
+
+-- the two counts of a host rise by at most one
+pub record Counts (old new : HostImage) : Type 0 where
+  pub commands : new.commands ≤ old.commands + 1
+  pub events : new.events ≤ old.events + 1

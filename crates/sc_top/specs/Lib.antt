@@ -1,3 +1,4 @@
-pub mod Held
 pub mod FirstForm
+pub mod Held
+pub mod Running
 pub mod ScriptLines

@@ -46,7 +46,7 @@ impl Answered {
 
 impl Host {
     ghost use Rattle.sc_law.specs.Host.{install, start, post, step, answer};
-    ghost use Rattle.sc_top.specs.Held.{IsHeld, DoesAnswer};
+    ghost use Rattle.sc_top.specs.Held.{IsHeld, DoesAnswer, Counts};
 
     pub fn new(alloc: Global) -> Host
         ensures image { result.image ≡ empty_host }
@@ -74,7 +74,8 @@ impl Host {
     ) -> Result<Answered, NoMemory>
         requires held { IsHeld self.old }
         requires room { self.old.image.commands + 1 < 2 ^ 64 }
-        ensures { IfOk result (DoesAnswer (install self.old.image name.now text.now) self.new) }
+        ensures answer { IfOk result (DoesAnswer (install self.old.image name.now text.now) self.new) }
+        ensures counts { OnOk result (Counts self.old.image self.new.image) }
     {
         if name.bytes().len() > 64 {
             return Ok(refused(alloc, Refusal::TooLong(2)));
@@ -102,7 +103,8 @@ impl Host {
     ) -> Result<Answered, NoMemory>
         requires held { IsHeld self.old }
         requires room { self.old.image.commands + 1 < 2 ^ 64 }
-        ensures { IfOk result (DoesAnswer (start self.old.image session.now chart.now) self.new) }
+        ensures answer { IfOk result (DoesAnswer (start self.old.image session.now chart.now) self.new) }
+        ensures counts { OnOk result (Counts self.old.image self.new.image) }
     {
         if session.bytes().len() > 64 {
             return Ok(refused(alloc, Refusal::TooLong(1)));
@@ -136,7 +138,8 @@ impl Host {
         requires held { IsHeld self.old }
         requires room { self.old.image.commands + 1 < 2 ^ 64 }
         requires numbers { self.old.image.events + 1 < 2 ^ 128 }
-        ensures { IfOk result (DoesAnswer (post self.old.image session.now name.now pairs.now) self.new) }
+        ensures answer { IfOk result (DoesAnswer (post self.old.image session.now name.now pairs.now) self.new) }
+        ensures counts { OnOk result (Counts self.old.image self.new.image) }
     {
         if name.bytes().len() > 256 {
             return Ok(refused(alloc, Refusal::TooLong(3)));
@@ -159,7 +162,8 @@ impl Host {
     fn step(&mut self, alloc: Global, session: &Word) -> Result<Answered, NoMemory>
         requires held { IsHeld self.old }
         requires room { self.old.image.commands + 1 < 2 ^ 64 }
-        ensures { IfOk result (DoesAnswer (step self.old.image session.now) self.new) }
+        ensures answer { IfOk result (DoesAnswer (step self.old.image session.now) self.new) }
+        ensures counts { OnOk result (Counts self.old.image self.new.image) }
     {
         let Some((place, found)) = session_named(&self.image, session.bytes()) else {
             return Ok(refused(alloc, Refusal::NoSession));
@@ -203,7 +207,8 @@ impl Host {
         requires held { IsHeld self.old }
         requires room { self.old.image.commands + 1 < 2 ^ 64 }
         requires numbers { self.old.image.events + 1 < 2 ^ 128 }
-        ensures { IfOk result (DoesAnswer (answer self.old.image command.now) self.new) }
+        ensures answer { IfOk result (DoesAnswer (answer self.old.image command.now) self.new) }
+        ensures counts { OnOk result (Counts self.old.image self.new.image) }
     {
         match command {
             Command::Install { name, chart } => self.install(alloc, name, chart),

@@ -3,4 +3,5 @@
 
 mod chart_reader;
 mod host;
+mod run;
 mod script_reader;
