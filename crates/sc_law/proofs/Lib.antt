@@ -1,3 +1,4 @@
+pub mod Changes
 pub mod Histories
 pub mod Paths
 pub mod Rounds

@@ -1,4 +1,5 @@
 pub mod FirstForm
 pub mod Held
+pub mod Promise
 pub mod Running
 pub mod ScriptLines

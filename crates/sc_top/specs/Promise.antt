@@ -1,0 +1,36 @@
+-- What the program promises: the line or the report that goes with each status. This host's own rule.
+use Rattle.std.specs.Prelude.{ℕ, ◌≡◌, Option, IfSome, List, [], ◌∷◌, take, codes}
+use Rattle.sc_types.specs.declared.command.Command.{Command}
+use Rattle.sc_types.specs.declared.history.Entry.{Entry}
+use Rattle.sc_law.specs.Host.{empty_host}
+use Rattle.sc_law.specs.History.{replay}
+use Rattle.sc_law.specs.Report.{report}
+use Rattle.sc_law.specs.Run.{IsHistoryOf}
+use Rattle.sc_top.specs.FirstForm.{IsFirstForm}
+
+-- the words of a run on one thread
+abbrev pub IsRunWords : List (List ℕ) → Type 0
+IsRunWords words = words ≡ codes "run" ∷ codes "--workers" ∷ codes "0" ∷ []
+
+-- the steps that a run may take
+abbrev pub step_budget : ℕ
+step_budget = 1000000
+
+-- what is read of a source: all that it has, or one byte more than a script may have
+abbrev pub script_read : List ℕ → List ℕ
+script_read all = take 65537 all
+
+-- The bytes that go with a status, for these words and what the source has, where that is told; `faulted` says that
+-- the source's count of faults rose. Of a script the bytes are the report of the history that its run makes from
+-- the empty host.
+pub data Says (words : List (List ℕ)) (source : Option (List ℕ)) (faulted : Type 0) : ℕ → List ℕ → Type 0 where
+  other_words : (IsRunWords words → ⊥) → Says words source faulted 1 (codes "words\n")
+  read_fault : IsRunWords words → faulted → Says words source faulted 4 (codes "read\n")
+  no_script : IsRunWords words → IfSome source (λ all. (cs : List Command) → IsFirstForm (script_read all) cs → ⊥) → Says words source faulted 12 (codes "not-built\n")
+  ran : (cs : List Command) (history : List Entry) → IsRunWords words → IfSome source (λ all. IsFirstForm (script_read all) cs)
+      → IsHistoryOf cs step_budget history → Says words source faulted 0 (report 0 (replay empty_host history) history (codes "quiet"))
+
+-- these bytes are those of some status other than the two that say nothing of their own
+pub record Output (words : List (List ℕ)) (source : Option (List ℕ)) (faulted : Type 0) (text : List ℕ) : Type 0 where
+  pub status : ℕ
+  pub says : Says words source faulted status text
