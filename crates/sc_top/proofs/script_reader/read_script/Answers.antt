@@ -1,4 +1,4 @@
-use Rattle.std.proofs.Common.{◌≡◌, List, Err, IfOk, ap, subst}
+use Rattle.std.proofs.Common.{◌≡◌, List, Err, IfOk, ap, subst, arith}
 use Rattle.std.proofs.lemmas.Result.{err_from_is_err_and}
 use Rattle.sc_types.specs.declared.command.Command.{Command}
 use Rattle.sc_top.specs.declared.script_reader.ScriptRefusal.TheVariants.{NotFirstForm}
@@ -30,19 +30,19 @@ returns-in_err-session-clause-none c =
 
 pub returns-clause-found : goal.returns-clause-found
 returns-clause-found c =
-    let opening = opening_of c.args.text.now c.in_ok-name.name c.in_ok-name.chart c.in_ok-session.session c.in-Some-cut.posts.now c.in-Some.first.now c.in-Some.rest.now c.in-Some-cut.second.now c.if-text-gt65536.false c.in-Some.ensures c.in-Some-cut.ensures c.in_ok-name.ensures.found c.in_ok-session.ensures.found in
+    let opening = opening_of c.args.text.now c.in_ok-name.name c.in_ok-name.chart c.in_ok-session.session c.in-Some-cut.posts.now c.in-Some.first.now c.in-Some.rest.now c.in-Some-cut.second.now (omega arith) c.in-Some.ensures c.in-Some-cut.ensures c.in_ok-name.ensures.found c.in_ok-session.ensures.found in
     found c.read_posts.result c.args.text.now c.in_ok-name.name c.in_ok-name.chart c.in_ok-session.session c.in-Some-cut.posts.now opening
     (subst (λ (before : List Command). IfOk c.read_posts.result (AddsPosts before c.in_ok-session.session c.in-Some-cut.posts.now)) c.in_ok-opening.ensures c.read_posts.ensures.found)
 
 pub returns-clause-none : goal.returns-clause-none
 returns-clause-none c =
     λ fault cs form.
-    let opening = opening_of c.args.text.now c.in_ok-name.name c.in_ok-name.chart c.in_ok-session.session c.in-Some-cut.posts.now c.in-Some.first.now c.in-Some.rest.now c.in-Some-cut.second.now c.if-text-gt65536.false c.in-Some.ensures c.in-Some-cut.ensures c.in_ok-name.ensures.found c.in_ok-session.ensures.found in
+    let opening = opening_of c.args.text.now c.in_ok-name.name c.in_ok-name.chart c.in_ok-session.session c.in-Some-cut.posts.now c.in-Some.first.now c.in-Some.rest.now c.in-Some-cut.second.now (omega arith) c.in-Some.ensures c.in-Some-cut.ensures c.in_ok-name.ensures.found c.in_ok-session.ensures.found in
     let rest = rest_of c.args.text.now c.in_ok-name.name c.in_ok-name.chart c.in_ok-session.session c.in-Some-cut.posts.now opening cs form in
     c.read_posts.ensures.none fault rest.events rest.posts
 
 pub returns-clause-only : goal.returns-clause-only
 returns-clause-only c =
-    let opening = opening_of c.args.text.now c.in_ok-name.name c.in_ok-name.chart c.in_ok-session.session c.in-Some-cut.posts.now c.in-Some.first.now c.in-Some.rest.now c.in-Some-cut.second.now c.if-text-gt65536.false c.in-Some.ensures c.in-Some-cut.ensures c.in_ok-name.ensures.found c.in_ok-session.ensures.found in
+    let opening = opening_of c.args.text.now c.in_ok-name.name c.in_ok-name.chart c.in_ok-session.session c.in-Some-cut.posts.now c.in-Some.first.now c.in-Some.rest.now c.in-Some-cut.second.now (omega arith) c.in-Some.ensures c.in-Some-cut.ensures c.in_ok-name.ensures.found c.in_ok-session.ensures.found in
     only c.read_posts.result c.args.text.now c.in_ok-name.name c.in_ok-name.chart c.in_ok-session.session c.in-Some-cut.posts.now opening
     (subst (λ (before : List Command). IfOk c.read_posts.result (AddsPosts before c.in_ok-session.session c.in-Some-cut.posts.now)) c.in_ok-opening.ensures c.read_posts.ensures.found)
