@@ -1,12 +1,12 @@
 -- A text of the first form is one of its parts, and they are fixed by it.
-use Rattle.std.proofs.Common.{◌≡◌, ℕ, ◌≤◌, List, [], ◌∷◌, ◌++◌, IsTrue, length, map, Result, Ok, Err, IfOk, refl, sym, ap, ap₂, subst, ◌∙◌, append_assoc}
+use Rattle.std.proofs.Common.{◌≡◌, ℕ, ◌≤◌, List, [], ◌∷◌, ◌++◌, length, map, Result, Ok, Err, IfOk, refl, sym, ap, subst, ◌∙◌, append_assoc}
 use Rattle.std.specs.List.{flat_map}
 use Rattle.sc_types.specs.declared.command.Command.{Command}
 use Rattle.sc_types.specs.declared.command.Command.TheVariants.{Install, Start}
 use Rattle.sc_law.specs.Lines.{line, command_text}
-use Rattle.sc_top.specs.FirstForm.{lacks, IsShortName, IsChartText, post_of, IsFirstForm}
+use Rattle.sc_top.specs.FirstForm.{post_of, IsFirstForm}
 use Rattle.sc_top.specs.ScriptLines.{IsCut, IsChartLine, IsStartLine, IsPosts, posts_text}
-use Rattle.sc_top.proofs.Cuts.{same_cut, no_cut}
+use Rattle.sc_top.proofs.Cuts.{same_cut}
 use Rattle.sc_top.proofs.Lines.{same_chart_line, same_start_line, chart_line_lacks, start_line_lacks}
 use Rattle.sc_top.proofs.Posts.{same_posts}
 
@@ -111,10 +111,10 @@ made : (text name json session posts : List ℕ) (events : List (List ℕ)) → 
 made text name json session posts events o p = record {
   short = o.short;
   spelled =
-    o.first_cut.joined
-    ∙ ap (λ t. t ++ 10 ∷ o.rest) o.chart_line.spelled
-    ∙ ap (λ t. command_text (Install name json) ++ 10 ∷ t) (o.second_cut.joined ∙ ap (λ t. t ++ 10 ∷ posts) o.start_line.spelled ∙ ap (λ t. command_text (Start session name) ++ 10 ∷ t) p.spelled)
-    ∙ sym (text_of name json session events);
+      o.first_cut.joined
+      ∙ ap (λ t. t ++ 10 ∷ o.rest) o.chart_line.spelled
+      ∙ ap (λ t. command_text (Install name json) ++ 10 ∷ t) (o.second_cut.joined ∙ ap (λ t. t ++ 10 ∷ posts) o.start_line.spelled ∙ ap (λ t. command_text (Start session name) ++ 10 ∷ t) p.spelled)
+      ∙ sym (text_of name json session events);
   shape = record {
     name = name;
     json = json;

@@ -1,7 +1,7 @@
 -- The first place of a byte.
-use Rattle.std.proofs.Common.{◌≡◌, ℕ, suc, ◌+◌, ◌<◌, ◌≤◌, ◌==◌, List, [], ◌∷◌, ◌++◌, Bool, true, false, not, ◌&&◌, Option, Some, None, MatchOption, IsTrue, nat_lt, length, get_or, take, drop, cond, refl, sym, ap, ap₂, ◌∙◌, arith, append_assoc}
+use Rattle.std.proofs.Common.{◌≡◌, ℕ, suc, ◌+◌, ◌<◌, ◌≤◌, ◌==◌, List, [], ◌∷◌, Bool, true, false, not, ◌&&◌, Some, None, IsTrue, nat_lt, length, take, drop, cond, refl, ap, ap₂, arith}
 use native.Mathlib.Numerals.{unary_clauses}
-use Rattle.std.specs.List.{list_all, position, prefix_len}
+use Rattle.std.specs.List.{position, prefix_len}
 use Rattle.std.proofs.lemmas.Bool.Decides.{nat_tests}
 use Rattle.sc_top.specs.FirstForm.{lacks}
 use Rattle.sc_top.specs.ScriptLines.{IsCut}

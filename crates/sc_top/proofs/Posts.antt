@@ -1,15 +1,14 @@
 -- The events of the post lines are fixed by their text.
-use Rattle.std.proofs.Common.{◌≡◌, ◌≢◌, ℕ, ◌<◌, List, [], ◌∷◌, ◌++◌, All, IsTrue, length, map, refl, sym, ap, ap₂, ◌∙◌, arith, append_assoc}
-use Rattle.std.specs.List.{flat_map}
+use Rattle.std.proofs.Common.{◌≡◌, ℕ, ◌<◌, List, [], ◌∷◌, ◌++◌, All, length, map, refl, sym, ap, ap₂, ◌∙◌, arith, append_assoc}
 use Rattle.std.proofs.lemmas.List.{append-nil, map-append}
-use Rattle.std.proofs.lemmas.List.Elements.{All-head, All-tail, All-push}
+use Rattle.std.proofs.lemmas.List.Elements.{All-head, All-tail}
 use Rattle.std.proofs.lemmas.Grind.{flat_map-append}
 use Rattle.sc_types.specs.Text.{IsWord, IsPlainName}
 use Rattle.sc_types.specs.declared.command.Command.{Command}
 use Rattle.sc_law.specs.Lines.{line, command_text}
-use Rattle.sc_top.specs.FirstForm.{lacks, post_of}
-use Rattle.sc_top.specs.ScriptLines.{IsCut, IsPostLine, IsPosts, posts_text}
-use Rattle.sc_top.proofs.Cuts.{same_parts, same_cut}
+use Rattle.sc_top.specs.FirstForm.{post_of}
+use Rattle.sc_top.specs.ScriptLines.{IsCut, IsPosts, posts_text}
+use Rattle.sc_top.proofs.Cuts.{same_parts}
 use Rattle.sc_top.proofs.Lines.{same_post, post_line_lacks}
 
 abbrev post : List ℕ → List ℕ → List ℕ

@@ -1,5 +1,5 @@
 -- What a test of two texts tells, and what follows a prefix.
-use Rattle.std.proofs.Common.{◌≡◌, ◌≢◌, ℕ, List, ◌+◌, ◌++◌, Bool, true, false, not, Option, Some, None, MatchOption, Bor, length, take, drop, refl, sym, ap, ◌∙◌}
+use Rattle.std.proofs.Common.{◌≡◌, ◌≢◌, ℕ, List, ◌+◌, ◌++◌, Bool, true, false, not, Option, Some, None, MatchOption, Bor, length, take, drop, sym, ap, ◌∙◌}
 use Rattle.std.specs.Prelude.{nat_eq}
 use Rattle.std.proofs.Math.Seq.{take-append_seam}
 use Rattle.std.proofs.lemmas.Bool.{not-false, not-true}

@@ -1,5 +1,5 @@
 -- The lines of a script of the first form one by one, as the parts of its reader find them.
-use Rattle.std.specs.Prelude.{ℕ, ◌≡◌, List, [], ◌∷◌, ◌++◌, All, IsTrue}
+use Rattle.std.specs.Prelude.{ℕ, ◌≡◌, List, ◌∷◌, ◌++◌, All, IsTrue}
 use Rattle.std.specs.List.{flat_map}
 use Rattle.sc_types.specs.Text.{IsPlainName}
 use Rattle.sc_types.specs.declared.command.Command.TheVariants.{Install, Start}

@@ -1,5 +1,4 @@
-use Rattle.std.proofs.Common.{◌≡◌, IfOk, Option, rules, sym}
-use Rattle.sc_types.specs.declared.chart.Chart.{Chart}
+use Rattle.std.proofs.Common.{sym}
 use Rattle.sc_top.proofs.Charts.{flat_chart_of-read, flat_chart_of-unread}
 use Rattle.sc_top.proofs.chart_reader.read_flat_chart.Goals as goal
 

@@ -1,5 +1,4 @@
-use Rattle.std.proofs.Common.{◌≡◌, ◌==◌, Some, None, sym, ◌∙◌}
-use Rattle.std.specs.List.{position}
+use Rattle.std.proofs.Common.{sym, ◌∙◌}
 use Rattle.std.proofs.lemmas.List.{take_rest}
 use Rattle.sc_top.proofs.Places.{cut_there, lacks_it}
 use Rattle.sc_top.proofs.script_reader.cut.Goals as goal

@@ -1,4 +1,4 @@
-use Rattle.std.proofs.Common.{◌≡◌, IsTrue, false, subst, sym}
+use Rattle.std.proofs.Common.{◌≡◌, IsTrue, false, subst}
 use Rattle.sc_types.specs.Text.{IsPlainName}
 use Rattle.sc_top.proofs.Lines.{post_line_words}
 use Rattle.sc_top.proofs.script_reader.event_after.Goals as goal
@@ -10,7 +10,7 @@ returns-in_err-event c =
 pub returns-else-is_plain_name : goal.returns-else-is_plain_name
 returns-else-is_plain_name c =
     λ event line.
-        let spaced = post_line_words c.args.session.now c.args.text.now c.in_ok-words.words.now c.in_ok-spaced.spaced.now event c.in_ok-words.ensures c.in_ok-spaced.ensures line in
-        let same : event ≡ c.in_ok-event.event.now = cc (c.in_ok-event.ensures, spaced) in
-        let never : IsTrue false = c.if-is_plain_name.ensures.form.1 (subst IsPlainName same line.event_name) in
-        cc
+    let spaced = post_line_words c.args.session.now c.args.text.now c.in_ok-words.words.now c.in_ok-spaced.spaced.now event c.in_ok-words.ensures c.in_ok-spaced.ensures line in
+    let same : event ≡ c.in_ok-event.event.now = cc (c.in_ok-event.ensures, spaced) in
+    let never : IsTrue false = c.if-is_plain_name.ensures.form.1 (subst IsPlainName same line.event_name) in
+    cc

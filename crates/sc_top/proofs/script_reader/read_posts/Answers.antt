@@ -1,10 +1,8 @@
-use Rattle.std.proofs.Common.{◌≡◌, ◌<◌, ◌++◌, [], ◌∷◌, Err, length, map, arith, ap, sym, ◌∙◌, append_assoc}
+use Rattle.std.proofs.Common.{◌≡◌, ◌<◌, ◌++◌, [], ◌∷◌, Err, length, arith, ap, ◌∙◌}
 use Rattle.std.proofs.lemmas.Bool.Decides.{nat_tests}
-use Rattle.std.proofs.lemmas.List.{map-append}
 use Rattle.std.proofs.lemmas.List.Elements.{All-push}
 use Rattle.std.proofs.lemmas.Result.{err_from_is_err_and}
 use Rattle.sc_types.specs.Text.{IsPlainName}
-use Rattle.sc_top.specs.FirstForm.{post_of}
 use Rattle.sc_top.specs.declared.script_reader.ScriptRefusal.TheVariants.{NotFirstForm}
 use Rattle.sc_top.proofs.Cuts.{no_cut, same_cut}
 use Rattle.sc_top.proofs.Posts.{next, posts_more, commands_more}
@@ -13,18 +11,18 @@ use Rattle.sc_top.proofs.script_reader.read_posts.Goals as goal
 pub returns-in_default-clause-none : goal.returns-in_default-clause-none
 returns-in_default-clause-none c =
     λ _ events posts.
-        let some : 0 < length c.loop-rest.rest.now = grind (arith, nat_tests, c.loop-rest-test.ensures) in
-        let line = next c.args.session.now c.args.text.now c.loop-rest.rest.now c.loop-rest.invariant.events events c.requires c.loop-rest.invariant.plain c.loop-rest.invariant.text posts some in
-        no_cut 10 c.loop-rest.rest.now _ line.more c.in_default.ensures line.cut
+    let some : 0 < length c.loop-rest.rest.now = grind (arith, nat_tests, c.loop-rest-test.ensures) in
+    let line = next c.args.session.now c.args.text.now c.loop-rest.rest.now c.loop-rest.invariant.events events c.requires c.loop-rest.invariant.plain c.loop-rest.invariant.text posts some in
+    no_cut 10 c.loop-rest.rest.now _ line.more c.in_default.ensures line.cut
 
 pub returns-in_err-read_post_line-clause-none : goal.returns-in_err-read_post_line-clause-none
 returns-in_err-read_post_line-clause-none c =
     λ fault events posts.
-        let given = err_from_is_err_and c.from_residual.result c.from_residual.ensures.1 in
-        let form : c.in_err-read_post_line.field-0.0 ≡ NotFirstForm = cc (given.1, given.2, fault) in
-        let some : 0 < length c.loop-rest.rest.now = grind (arith, nat_tests, c.loop-rest-test.ensures) in
-        let line = next c.args.session.now c.args.text.now c.loop-rest.rest.now c.loop-rest.invariant.events events c.requires c.loop-rest.invariant.plain c.loop-rest.invariant.text posts some in
-        c.in_err-read_post_line.ensures.none (ap Err form) line.event (record { spelled = (same_cut 10 c.loop-rest.rest.now c.in-Some.line.now c.in-Some.more.now _ line.more c.in-Some.ensures line.cut).0; event_name = line.plain })
+    let given = err_from_is_err_and c.from_residual.result c.from_residual.ensures.1 in
+    let form : c.in_err-read_post_line.field-0.0 ≡ NotFirstForm = cc (given.1, given.2, fault) in
+    let some : 0 < length c.loop-rest.rest.now = grind (arith, nat_tests, c.loop-rest-test.ensures) in
+    let line = next c.args.session.now c.args.text.now c.loop-rest.rest.now c.loop-rest.invariant.events events c.requires c.loop-rest.invariant.plain c.loop-rest.invariant.text posts some in
+    c.in_err-read_post_line.ensures.none (ap Err form) line.event (record { spelled = (same_cut 10 c.loop-rest.rest.now c.in-Some.line.now c.in-Some.more.now _ line.more c.in-Some.ensures line.cut).0; event_name = line.plain })
 
 pub loop-rest-preserved : goal.loop-rest-preserved
 loop-rest-preserved c =

@@ -1,4 +1,4 @@
-use Rattle.std.proofs.Common.{◌≡◌, IsTrue, sym, ap, ◌∙◌}
+use Rattle.std.proofs.Common.{◌≡◌, sym, ap, ◌∙◌}
 use Rattle.sc_types.specs.declared.chart.Node.{Node, out-Node, roll-Node, roll-out-Node}
 use Rattle.sc_types.proofs.chart.+same.Goals as goal
 
