@@ -4,5 +4,7 @@ pub mod Given
 pub mod Histories
 pub mod Once
 pub mod Paths
+pub mod Pending
+pub mod Promise
 pub mod Rounds
 pub mod Turns
