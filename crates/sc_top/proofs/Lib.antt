@@ -8,3 +8,4 @@ pub mod Names
 pub mod Places
 pub mod Posts
 pub mod Prefixes
+pub mod ReportLemmas

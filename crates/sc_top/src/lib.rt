@@ -3,4 +3,5 @@
 
 mod chart_reader;
 mod host;
+mod report;
 mod script_reader;
