@@ -8,4 +8,5 @@ pub mod Names
 pub mod Places
 pub mod Posts
 pub mod Prefixes
+pub mod ReportLemmas
 pub mod Runs
