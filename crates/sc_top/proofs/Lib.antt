@@ -10,3 +10,5 @@ pub mod Posts
 pub mod Prefixes
 pub mod ReportLemmas
 pub mod Runs
+pub mod Sayings
+pub mod Scripts

@@ -74,7 +74,10 @@ fn is_run(words: &[String]) -> bool
 {
     match words {
         [word, option, number] => {
-            word.as_str() == "run" && option.as_str() == "--workers" && number.as_str() == "0"
+            if word.as_str() != "run" || option.as_str() != "--workers" {
+                return false;
+            }
+            number.as_str() == "0"
         }
         _ => false,
     }
