@@ -4,17 +4,17 @@ use std::test::Fail;
 
 #[test]
 fn other_words_are_no_command(rt: HostRuntime) -> Result<(), Fail> {
-    for words in [
-        [].as_slice(),
-        ["run"].as_slice(),
-        ["run", "--workers=0"].as_slice(),
-        ["run", "--workers", "1"].as_slice(),
-        ["--workers", "0", "run"].as_slice(),
-        ["run", "--workers", "0", "0"].as_slice(),
+    for line in [
+        "",
+        "run",
+        "run --workers=0",
+        "run --workers 1",
+        "--workers 0 run",
+        "run --workers 0 0",
     ] {
-        let outcome = call(rt.alloc(), words, ONE_LOG.as_bytes())?;
-        assert_eq!(rt; outcome.status, 1);
-        assert_eq!(rt; outcome.written(), b"words\n".as_slice());
+        let outcome = call(rt.alloc(), line, ONE_LOG.as_bytes())?;
+        assert_eq!(rt; outcome.status, 1, "{line}");
+        assert_eq!(rt; outcome.written(), b"words\n".as_slice(), "{line}");
     }
     Ok(())
 }
@@ -79,7 +79,7 @@ const OTHER_TEXTS: [(&str, &[u8]); 14] = [
 #[test]
 fn other_texts_are_not_built(rt: HostRuntime) -> Result<(), Fail> {
     for (what, text) in OTHER_TEXTS {
-        let outcome = call(rt.alloc(), &RUN, text)?;
+        let outcome = call(rt.alloc(), RUN, text)?;
         assert_eq!(rt; outcome.status, 12, "{what}");
         assert_eq!(rt; outcome.written(), b"not-built\n".as_slice(), "{what}");
     }
@@ -104,7 +104,7 @@ fn a_script_has_at_most_65536_bytes(rt: HostRuntime) -> Result<(), Fail> {
     for (size, status) in [(65_536, 0), (65_537, 12), (70_000, 12)] {
         let script = script_of(&rt, size)?;
         assert_eq!(rt; script.len(), size);
-        let outcome = call(rt.alloc(), &RUN, script.as_slice())?;
+        let outcome = call(rt.alloc(), RUN, script.as_slice())?;
         assert_eq!(rt; outcome.status, status, "{size} bytes");
     }
     Ok(())
