@@ -1,5 +1,10 @@
 pub mod Changes
+pub mod Found
+pub mod Given
 pub mod Histories
+pub mod Once
 pub mod Paths
+pub mod Pending
+pub mod Promise
 pub mod Rounds
 pub mod Turns

@@ -81,11 +81,13 @@ round_keeps c r = elim r.stopped as (λ b. RoundIsOf r (if b then None else even
 
 settle_keeps : (c : Chart) (rounds : ℕ) (r : RunState) → IsOf r (settle c rounds r).1
 unfolding settle
-settle_keeps c zero r =
-    elim (next_round c r) as (λ o. IsOf r (option_map_or (λ _. (false, r)) o (true, start_invokes r)).1) [ None ↦ refl | Some next ↦ refl ]
+settle_keeps c zero r = goes (next_round c r) where
+  goes : (o : Option RunState) → IsOf r (option_map_or {U = Bool × RunState} (λ _. (false, r)) o (true, start_invokes r)).1
+  goes None = refl
+  goes (Some next) = refl
 settle_keeps c (suc rounds) r = goes (next_round c r) (round_keeps c r) (λ next. settle_keeps c rounds next) where
   goes : (o : Option RunState) → RoundIsOf r o → ((next : RunState) → IsOf next (settle c rounds next).1)
-      → IsOf r (option_map_or (λ next. settle c rounds next) o (true, start_invokes r)).1
+      → IsOf r (option_map_or {U = Bool × RunState} (λ next. settle c rounds next) o (true, start_invokes r)).1
   goes None k others = refl
   goes (Some next) k others = others next ∙ k
 

@@ -46,11 +46,12 @@ consumed_in (Post session name pairs) reply = None
 abbrev pub consumed : Entry → Option (ℕ × List ℕ)
 consumed e = consumed_in e.command e.reply
 
+abbrev pub is_number : ℕ → Option (ℕ × List ℕ) → Bool
+is_number n None = false
+is_number n (Some c) = c.0 == n
+
 abbrev pub consumes : ℕ → Entry → Bool
-consumes n e = is_number (consumed e) where
-  is_number : Option (ℕ × List ℕ) → Bool
-  is_number None = false
-  is_number (Some c) = c.0 == n
+consumes n e = is_number n (consumed e)
 
 -- an event went to a session under its number, by a post or by a delivery
 

@@ -75,11 +75,12 @@ is_accepted_step (Start session chart) reply = false
 is_accepted_step (Post session name pairs) reply = false
 
 -- an entry is of the set-up's client, or it is an accepted step of a worker
+abbrev pub served_by : Who → Command → Reply → Bool
+served_by Worker c reply = is_accepted_step c reply
+served_by (Client n) c reply = n == 0
+
 abbrev pub is_served : Entry → Bool
-is_served e = by_who e.who where
-  by_who : Who → Bool
-  by_who Worker = is_accepted_step e.command e.reply
-  by_who (Client n) = n == 0
+is_served e = served_by e.who e.command e.reply
 
 -- each command of the script is made once, in order, and workers make accepted steps alone
 pub record Serves (cs : List Command) (history : List Entry) : Type 0 where
@@ -88,6 +89,13 @@ pub record Serves (cs : List Command) (history : List Entry) : Type 0 where
 
 abbrev pub accepted_steps : List Entry → ℕ
 accepted_steps history = count_by (λ (e : Entry). is_accepted_step e.command e.reply) history
+
+-- a script has no steps of its own
+abbrev pub IsNoStep : Command → Type 0
+IsNoStep (Step session) = ⊥
+IsNoStep (Install name text) = Unit {0}
+IsNoStep (Start session chart) = Unit {0}
+IsNoStep (Post session name pairs) = Unit {0}
 
 -- The promise for a script of one client: what is run from the empty host is one legal history; each accepted
 -- event is consumed at most once; the script is served; at the end no session is ready.

@@ -113,6 +113,14 @@ impl Tree {
         self.paths().iter().position(|path| self.has_id(id, path.slice()))
     }
 
+    /// The id of a state, where it has one.
+    pub fn id_of(&self, state: u32) -> Option<&[u8]>
+        ensures { option_copied result ≡ option_and_then id_of (node_of self.now state) }
+    {
+        let node = node_at(&self.chart().root, self.path_of(state))?;
+        plain_id(node)
+    }
+
     fn has_id(&self, id: &[u8], path: &[usize]) -> bool
         ensures { result ≡ has_id self.now id.now path.now }
     {
@@ -214,5 +222,14 @@ fn has_plain_id(node: &Node, id: &[u8]) -> bool
     match member(b"id", node) {
         Some(Member::Plain(own)) => own.slice() == id,
         _ => false,
+    }
+}
+
+fn plain_id(node: &Node) -> Option<&[u8]>
+    ensures { option_copied result ≡ id_of node.now }
+{
+    match member(b"id", node)? {
+        Member::Plain(own) => Some(own.slice()),
+        _ => None,
     }
 }

@@ -8,4 +8,7 @@ pub mod Names
 pub mod Places
 pub mod Posts
 pub mod Prefixes
+pub mod ReportLemmas
 pub mod Runs
+pub mod Sayings
+pub mod Scripts

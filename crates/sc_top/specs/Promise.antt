@@ -20,15 +20,21 @@ step_budget = 1000000
 abbrev pub script_read : List ℕ → List ℕ
 script_read all = take 65537 all
 
+-- bytes that are the report of a script's run: one history from the empty host, with all that is promised of it
+pub record Reports (text bytes : List ℕ) : Type 0 where
+  pub commands : List Command
+  pub history : List Entry
+  pub form : IsFirstForm text commands
+  pub promise : IsHistoryOf commands step_budget history
+  pub is : bytes ≡ report 0 (replay empty_host history) history (codes "quiet")
+
 -- The bytes that go with a status, for these words and what the source has, where that is told; `faulted` says that
--- the source's count of faults rose. Of a script the bytes are the report of the history that its run makes from
--- the empty host.
+-- the source's count of faults rose.
 pub data Says (words : List (List ℕ)) (source : Option (List ℕ)) (faulted : Type 0) : ℕ → List ℕ → Type 0 where
   other_words : (IsRunWords words → ⊥) → Says words source faulted 1 (codes "words\n")
   read_fault : IsRunWords words → faulted → Says words source faulted 4 (codes "read\n")
-  no_script : IsRunWords words → IfSome source (λ all. (cs : List Command) → IsFirstForm (script_read all) cs → ⊥) → Says words source faulted 12 (codes "not-built\n")
-  ran : (cs : List Command) (history : List Entry) → IsRunWords words → IfSome source (λ all. IsFirstForm (script_read all) cs)
-      → IsHistoryOf cs step_budget history → Says words source faulted 0 (report 0 (replay empty_host history) history (codes "quiet"))
+  no_script : (text : List ℕ) → IsRunWords words → IfSome source (λ all. text ≡ script_read all) → ((cs : List Command) → IsFirstForm text cs → ⊥) → Says words source faulted 12 (codes "not-built\n")
+  ran : (text bytes : List ℕ) → IsRunWords words → IfSome source (λ all. text ≡ script_read all) → Reports text bytes → Says words source faulted 0 bytes
 
 -- these bytes are those of some status other than the two that say nothing of their own
 pub record Output (words : List (List ℕ)) (source : Option (List ℕ)) (faulted : Type 0) (text : List ℕ) : Type 0 where

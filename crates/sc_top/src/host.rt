@@ -193,7 +193,7 @@ impl Host {
     }
 
     /// The tree of an installed chart.
-    fn tree_named(&self, name: &[u8]) -> Option<&Tree>
+    pub(crate) fn tree_named(&self, name: &[u8]) -> Option<&Tree>
         requires { IsHeld self.now }
         ensures { unwrap_or (option_copied result) bare_chart ≡ chart_named self.now.image name.now }
     {

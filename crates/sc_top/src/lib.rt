@@ -3,5 +3,9 @@
 
 mod chart_reader;
 mod host;
+mod program;
+mod report;
 mod run;
 mod script_reader;
+
+pub use program::top;

@@ -1,0 +1,7 @@
+use Rattle.std.proofs.Common.{◌≡◌, ◌++◌, drop}
+use Rattle.std.specs.List.{flat_map}
+use Rattle.sc_law.specs.Report.{delivery_text}
+use Rattle.sc_top.proofs.report.entries.put_deliveries.Given as goal
+
+abbrev pub invariant-loop-delivery : goal.invariant-loop-delivery
+invariant-loop-delivery l = l.out.items ++ flat_map delivery_text (drop l.delivery-index l.sent) ≡ l.initial.out.items ++ flat_map delivery_text l.sent

@@ -1,0 +1,10 @@
+use Rattle.std.proofs.Common.{◌≡◌, ◌++◌, drop}
+use Rattle.std.specs.List.{flat_map}
+use Rattle.std.specs.Prelude.{unwrap_or}
+use Rattle.std.specs.Option.{option_copied}
+use Rattle.sc_law.specs.Host.{bare_chart}
+use Rattle.sc_law.specs.Report.{state_text}
+use Rattle.sc_top.proofs.report.sessions.put_ids.Given as goal
+
+abbrev pub invariant-loop-state : goal.invariant-loop-state
+invariant-loop-state l = l.out.items ++ flat_map (state_text (unwrap_or (option_copied l.tree) bare_chart)) (drop l.state-index l.states) ≡ l.initial.out.items ++ flat_map (state_text (unwrap_or (option_copied l.tree) bare_chart)) l.states

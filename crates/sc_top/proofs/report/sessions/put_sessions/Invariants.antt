@@ -1,0 +1,7 @@
+use Rattle.std.proofs.Common.{◌≡◌, ◌++◌, drop}
+use Rattle.std.specs.List.{flat_map}
+use Rattle.sc_law.specs.Report.{session_text}
+use Rattle.sc_top.proofs.report.sessions.put_sessions.Given as goal
+
+abbrev pub invariant-loop-session : goal.invariant-loop-session
+invariant-loop-session l = l.out.items ++ flat_map (session_text l.host.image) (drop l.session-index l.session-items) ≡ l.initial.out.items ++ flat_map (session_text l.host.image) l.session-items

@@ -1,0 +1,120 @@
+ghost use Rattle.std.specs.Prelude.{◌≡◌, ◌≢◌, ◌≤◌, ◌↔◌, ℕ, map, string_bytes, IfOk, IfSome, IsTrue, List, codes, length};
+ghost use Rattle.std.specs.Io.KnownBytes.{Appends, Keeps};
+ghost use Rattle.sc_types.specs.declared.command.Command.{Command};
+ghost use Rattle.sc_types.specs.declared.history.Entry.{Entry};
+ghost use Rattle.sc_law.specs.Host.{empty_host};
+ghost use Rattle.sc_law.specs.History.{replay};
+ghost use Rattle.sc_law.specs.Report.{report};
+ghost use Rattle.sc_law.specs.Run.{IsHistoryOf};
+ghost use Rattle.sc_dev.specs.Causes.{Rose};
+ghost use Rattle.sc_dev.specs.Transfer.{AppendsPart, ConsumesUpTo};
+ghost use Rattle.sc_top.specs.FirstForm.{IsFirstForm};
+ghost use Rattle.sc_top.specs.Promise.{IsRunWords, Reports, Says, Output};
+
+use std::alloc::Global;
+
+use sc_dev::{ReadFault, Sink, Source, read_up_to, write_all};
+use sc_types::{Command, NoMemory};
+
+use crate::report::report_of;
+use crate::run::run_script;
+use crate::script_reader::{ScriptRefusal, read_script};
+
+/// The statuses of the program.
+const DONE: u8 = 0;
+const OTHER_WORDS: u8 = 1;
+const READ_FAULT: u8 = 4;
+const WRITE_FAULT: u8 = 5;
+const OUT_OF_MEMORY: u8 = 7;
+const NO_SCRIPT: u8 = 12;
+
+/// The most bytes that a script may have.
+const SCRIPT_LIMIT: usize = 65_536;
+
+/// The most steps that a run may take.
+const STEP_BUDGET: u64 = 1_000_000;
+
+/// Runs the program with the words after its name, and answers its exit status. The words are
+/// `run --workers 0`; the source has the script, and the sink takes the report, or the line that names the
+/// status: 1 `words`, 4 `read`, 12 `not-built` where the text is no script of the first form. After 5, the sink
+/// failed and has taken a front of what was to be written; after 7 memory was wanting and nothing was written.
+pub fn top<S: Source, K: Sink>(
+    alloc: Global,
+    words: &[String],
+    source: &mut S,
+    sink: &mut K,
+) -> u8
+    ensures said { result ≢ 5 → result ≢ 7 → (text : List ℕ)
+        × Says (map string_bytes words.now) (S.left source.old) (Rose (S.faults source.old) (S.faults source.new)) result text
+        × Appends (K.taken sink.old) (K.taken sink.new) text }
+    ensures cut { result ≡ 5 → (text : List ℕ)
+        × Output (map string_bytes words.now) (S.left source.old) (Rose (S.faults source.old) (S.faults source.new)) text
+        × AppendsPart (K.taken sink.old) (K.taken sink.new) text }
+    ensures write { result ≡ 5 → Rose (K.faults sink.old) (K.faults sink.new) }
+    ensures none { result ≡ 7 → Keeps (K.taken sink.old) (K.taken sink.new) }
+    ensures few { ConsumesUpTo 65537 (S.left source.old) (S.left source.new) }
+{
+    if !is_run(words) {
+        return say(sink, b"words\n", OTHER_WORDS);
+    }
+    let text = match read_up_to(alloc, source, SCRIPT_LIMIT) {
+        Ok(text) => text,
+        Err(ReadFault::Failed) => return say(sink, b"read\n", READ_FAULT),
+        Err(ReadFault::NoMemory) => return OUT_OF_MEMORY,
+    };
+    match outcome_of(alloc, text.as_slice()) {
+        Ok(Some(report)) => say(sink, report.as_slice(), DONE),
+        Ok(None) => say(sink, b"not-built\n", NO_SCRIPT),
+        Err(NoMemory) => OUT_OF_MEMORY,
+    }
+}
+
+fn is_run(words: &[String]) -> bool
+    ensures { IsTrue result ↔ IsRunWords (map string_bytes words.now) }
+{
+    match words {
+        [word, option, number] => {
+            if word.as_str() != "run" || option.as_str() != "--workers" {
+                return false;
+            }
+            number.as_str() == "0"
+        }
+        _ => false,
+    }
+}
+
+/// Writes a text, and answers its status, or that the sink failed.
+fn say<K: Sink>(sink: &mut K, text: &[u8], status: u8) -> u8
+    requires { status ≢ 5 }
+    ensures status { result ≢ 5 → result ≡ status }
+    ensures written { result ≢ 5 → Appends (K.taken sink.old) (K.taken sink.new) text.now }
+    ensures cut { result ≡ 5 → AppendsPart (K.taken sink.old) (K.taken sink.new) text.now }
+    ensures fault { result ≡ 5 → Rose (K.faults sink.old) (K.faults sink.new) }
+{
+    match write_all(sink, text) {
+        Ok(()) => status,
+        Err(_) => WRITE_FAULT,
+    }
+}
+
+/// The report of a script's run; `None` where the text is no script.
+fn outcome_of(alloc: Global, text: &[u8]) -> Result<Option<Vec<u8>>, NoMemory>
+    ensures report { IfOk result (λ o. IfSome o (λ v. Reports text.now v.items)) }
+    ensures none { result ≡ Ok None → (cs : List Command) → IsFirstForm text.now cs → ⊥ }
+{
+    match read_script(alloc, text) {
+        Ok(commands) => Ok(Some(report_run(alloc, text, commands.slice())?)),
+        Err(ScriptRefusal::NotFirstForm) => Ok(None),
+        Err(ScriptRefusal::NoMemory) => Err(NoMemory),
+    }
+}
+
+/// Runs the commands that a text spells, and reports.
+fn report_run(alloc: Global, text: &[u8], commands: &[Command]) -> Result<Vec<u8>, NoMemory>
+    requires { IsFirstForm text.now commands.now }
+    ensures { IfOk result (λ v. Reports text.now v.items) }
+{
+    let run = run_script(alloc, commands, STEP_BUDGET)?;
+    let report = report_of(alloc, &run.host, run.history.slice(), 0, b"quiet")?;
+    Ok(report)
+}
