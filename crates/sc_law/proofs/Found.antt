@@ -1,5 +1,5 @@
 -- What it means that a session was found by its name.
-use Rattle.std.proofs.Common.{◌≡◌, ℕ, Option, Some, None, List, option_map, option_and_then, slice_get, position, refl, sym, ap, ◌∙◌}
+use Rattle.std.proofs.Common.{◌≡◌, ℕ, Option, Some, None, List, option_map, option_and_then, slice_get, refl, sym, ap, ◌∙◌}
 use Rattle.std.proofs.lemmas.List.Quantifiers.{position-Some}
 use Rattle.std.proofs.lemmas.Option.{some_pair_parts, get_or_from_slice_get}
 use Rattle.std.proofs.lemmas.Slice.Eq.{bytes_eq-Decides}

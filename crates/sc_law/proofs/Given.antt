@@ -1,5 +1,5 @@
 -- What a step consumes was given before, to that very session.
-use Rattle.std.proofs.Common.{◌≡◌, ℕ, zero, suc, ◌+◌, ◌==◌, ◌||◌, ◌&&◌, Bool, true, false, Option, Some, None, IfSome, IsTrue, List, [], ◌∷◌, ◌++◌, drop, slice_get, slice_set, refl, sym, ap, subst, ◌∙◌, arith, rules}
+use Rattle.std.proofs.Common.{◌≡◌, ℕ, zero, suc, ◌+◌, ◌==◌, ◌||◌, ◌&&◌, true, false, Option, Some, IfSome, IsTrue, List, [], ◌∷◌, ◌++◌, drop, slice_get, slice_set, refl, sym, ap, subst, ◌∙◌, rules}
 use Rattle.std.specs.List.{list_any, AllByRecursion}
 use Rattle.std.proofs.lemmas.Bool.Decides.{nat_tests}
 use Rattle.std.proofs.lemmas.List.Folds.{list_any-append}
@@ -10,8 +10,7 @@ use Rattle.std.proofs.lemmas.Slice.Eq.{bytes_eq-Decides}
 use Rattle.sc_types.specs.declared.command.Command.{Command}
 use Rattle.sc_types.specs.declared.command.Command.TheVariants.{Install, Start, Post, Step}
 use Rattle.sc_types.specs.declared.command.Refusal.{Refusal}
-use Rattle.sc_types.specs.declared.command.Reply.{Reply}
-use Rattle.sc_types.specs.declared.command.Reply.TheVariants.{Installed, Started, Posted, Stepped, Refused}
+use Rattle.sc_types.specs.declared.command.Reply.TheVariants.{Posted, Stepped, Refused}
 use Rattle.sc_types.specs.declared.event.Event.{Event}
 use Rattle.sc_types.specs.declared.history.Entry.{Entry}
 use Rattle.sc_types.specs.declared.host.HostImage.{HostImage}
@@ -21,12 +20,11 @@ use Rattle.sc_types.specs.declared.session.Cue.TheVariants.{Fresh, Resume, Exter
 use Rattle.sc_types.specs.declared.session.Phase.{Phase}
 use Rattle.sc_types.specs.declared.session.Phase.TheVariants as phase
 use Rattle.sc_types.specs.declared.value.Value.{Value}
-use Rattle.sc_law.specs.declared.run_state.TurnResult.{TurnResult}
-use Rattle.sc_law.specs.Host.{Answer, refused, accepted, answer, empty_host, chart_named, with_session, queue, posted_event, cue_of, name_of, queue_left, queue_of_phase, after_turn, step_cue}
+use Rattle.sc_law.specs.Host.{Answer, answer, chart_named, posted_event, cue_of, name_of, queue_left, queue_of_phase}
 use Rattle.sc_law.specs.History.{Tells, IsLegal, consumed_in, consumed, is_posted, is_queued, gives, GivenBefore}
 use Rattle.sc_law.specs.Turn.{turn}
-use Rattle.sc_law.proofs.Changes.{Change, refuses, installs, starts, queues, turns, change_of, with_chart, with_fresh}
-use Rattle.sc_law.proofs.Found.{IsAt, is_at}
+use Rattle.sc_law.proofs.Changes.{Change, refuses, installs, starts, queues, turns, change_of}
+use Rattle.sc_law.proofs.Found.{is_at}
 use Rattle.sc_law.proofs.Once.{external_front}
 use Rattle.sc_law.proofs.Turns.{turn-session}
 
@@ -167,6 +165,7 @@ pub given_from : (done : List Entry) (g : HostImage) (history : List Entry) → 
 unfolding IsGivenIn
 given_from done g [] legal h = tt
 given_from done g (e ∷ es) legal h =
-    let change = change_of g e.command in
-    (consumed_given done g e (answer g e.command) change legal.0 h,
-     given_from (done ++ e ∷ []) (answer g e.command).host es legal.1 (given_kept done g e (answer g e.command) change legal.0 h))
+    let change = change_of g e.command in (
+      consumed_given done g e (answer g e.command) change legal.0 h,
+      given_from (done ++ e ∷ []) (answer g e.command).host es legal.1 (given_kept done g e (answer g e.command) change legal.0 h),
+    )

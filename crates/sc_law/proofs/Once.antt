@@ -1,13 +1,12 @@
 -- Each event is consumed at most once: what waits and what was consumed of one number is at most one.
-use Rattle.std.proofs.Common.{◌≡◌, ℕ, ◌+◌, ◌-◌, ◌==◌, ◌<◌, ◌≤◌, Bool, true, false, cond, Option, Some, None, IfSome, List, [], ◌∷◌, ◌++◌, length, drop, sum_by, count_by, slice_get, slice_set, refl, sym, ap, subst, ◌∙◌, arith}
+use Rattle.std.proofs.Common.{◌≡◌, ℕ, ◌+◌, ◌==◌, ◌<◌, ◌≤◌, cond, Some, None, List, [], ◌∷◌, ◌++◌, drop, sum_by, count_by, slice_get, slice_set, refl, sym, ap, subst, ◌∙◌, arith}
 use Rattle.std.proofs.lemmas.Bool.Decides.{nat_tests}
 use Rattle.std.proofs.lemmas.List.Sums.{sum_by-set, sum_by-cons, sum_by_push}
 use Rattle.std.proofs.lemmas.Option.{slice_get_within, get_or_from_slice_get}
 use Rattle.sc_types.specs.declared.command.Command.{Command}
 use Rattle.sc_types.specs.declared.command.Command.TheVariants.{Install, Start, Post, Step}
 use Rattle.sc_types.specs.declared.command.Refusal.{Refusal}
-use Rattle.sc_types.specs.declared.command.Reply.{Reply}
-use Rattle.sc_types.specs.declared.command.Reply.TheVariants.{Installed, Started, Posted, Stepped, Refused}
+use Rattle.sc_types.specs.declared.command.Reply.TheVariants.{Stepped, Refused}
 use Rattle.sc_types.specs.declared.event.Event.{Event}
 use Rattle.sc_types.specs.declared.history.Entry.{Entry}
 use Rattle.sc_types.specs.declared.host.HostImage.{HostImage}
@@ -18,11 +17,11 @@ use Rattle.sc_types.specs.declared.session.Phase.{Phase}
 use Rattle.sc_types.specs.declared.session.Phase.TheVariants as phase
 use Rattle.sc_types.specs.declared.value.Value.{Value}
 use Rattle.sc_law.specs.declared.run_state.TurnResult.{TurnResult}
-use Rattle.sc_law.specs.Host.{Answer, refused, accepted, answer, empty_host, chart_named, with_session, queue, posted_event, waiting_cue, cue_in, cue_of, name_of, queue_left, queue_of_phase, after_turn, step_cue}
+use Rattle.sc_law.specs.Host.{Answer, answer, empty_host, chart_named, with_session, queue, posted_event, cue_in, cue_of, name_of, queue_left, queue_of_phase, after_turn}
 use Rattle.sc_law.specs.History.{Tells, IsLegal, consumed_in, consumed, is_number, consumes}
 use Rattle.sc_law.specs.Turn.{turn}
-use Rattle.sc_law.proofs.Changes.{Change, refuses, installs, starts, queues, turns, change_of, with_chart, with_fresh}
-use Rattle.sc_law.proofs.Found.{IsAt, is_at}
+use Rattle.sc_law.proofs.Changes.{Change, refuses, installs, starts, queues, turns, change_of, with_fresh}
+use Rattle.sc_law.proofs.Found.{is_at}
 
 -- a sum over a list of which one item was replaced
 pub sum_replaced : {X : Type 0} (f : X → ℕ) (xs : List X) (i : ℕ) (x y : X) → slice_get xs i ≡ Some x → sum_by f (slice_set xs i y) + f x ≡ sum_by f xs + f y

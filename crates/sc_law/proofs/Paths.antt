@@ -1,7 +1,7 @@
 -- The paths of a tree, by one level.
-use Rattle.std.proofs.Common.{◌≡◌, ℕ, List, ◌++◌, map, ap}
+use Rattle.std.proofs.Common.{◌≡◌, List, ◌++◌, map, ap}
 use Rattle.sc_types.specs.declared.chart.Node.{Node, out-Node}
-use Rattle.sc_types.specs.declared.chart.Node.TheFolds.{fold-Node, fold_out-Node}
+use Rattle.sc_types.specs.declared.chart.Node.TheFolds.{fold_out-Node}
 use Rattle.sc_law.specs.Tree.{Path, own_path, kids, paths_of_kids, paths_step, paths_from}
 
 -- an element's own path, where it is a state, and then what its child elements give

@@ -1,15 +1,14 @@
 -- What is left to step: each step leaves less, and a command adds at most one.
-use Rattle.std.proofs.Common.{◌≡◌, ℕ, zero, suc, ◌+◌, ◌-◌, ◌<◌, ◌≤◌, Bool, true, false, ◌||◌, cond, if◌then◌else◌, Option, Some, None, is_some, nat_lt, List, [], ◌∷◌, ◌++◌, length, length-append, drop, find, sum_by, slice_get, slice_set, position, option_map, option_and_then, lt-ltb, refl, sym, ap, subst, ◌∙◌, arith, rules}
+use Rattle.std.proofs.Common.{◌≡◌, ℕ, zero, suc, ◌+◌, ◌-◌, ◌≤◌, Bool, true, false, ◌||◌, cond, Option, Some, None, is_some, nat_lt, List, [], ◌∷◌, ◌++◌, length, length-append, find, sum_by, slice_get, slice_set, position, option_map, option_and_then, lt-ltb, refl, sym, ap, subst, ◌∙◌, arith}
 use Rattle.std.specs.List.{list_any, position_or_len}
 use Rattle.std.specs.Str.{bytes_eq}
-use Rattle.std.proofs.lemmas.Bool.Decides.{nat_tests}
 use Rattle.std.proofs.lemmas.List.Folds.{find_at, list_any-append}
 use Rattle.std.proofs.lemmas.List.Sums.{sum_by_push}
 use Rattle.std.proofs.lemmas.Option.{slice_get_within, same_Some, none-some}
 use Rattle.std.proofs.lemmas.Slice.Eq.{bytes_eq-Decides}
 use Rattle.sc_types.specs.declared.chart.Chart.{Chart}
 use Rattle.sc_types.specs.declared.command.Command.{Command}
-use Rattle.sc_types.specs.declared.command.Command.TheVariants.{Install, Start, Post, Step}
+use Rattle.sc_types.specs.declared.command.Command.TheVariants.{Step}
 use Rattle.sc_types.specs.declared.event.Event.{Event}
 use Rattle.sc_types.specs.declared.host.HostImage.{HostImage}
 use Rattle.sc_types.specs.declared.host.SessionImage.{SessionImage}
@@ -19,15 +18,14 @@ use Rattle.sc_types.specs.declared.session.Phase.{Phase}
 use Rattle.sc_types.specs.declared.session.Phase.TheVariants as phase
 use Rattle.sc_types.specs.declared.session.SessionState.{SessionState}
 use Rattle.sc_law.specs.declared.run_state.RunState.{RunState}
-use Rattle.sc_law.specs.declared.run_state.TurnResult.{TurnResult}
-use Rattle.sc_law.specs.Host.{Answer, answer, chart_named, with_session, queue, is_session_named, session_place, session_named, fresh_session, cue_in, cue_of, queue_left, queue_of_phase, after_turn, posted_event, step_cue, step_in, step_found, ready}
+use Rattle.sc_law.specs.Host.{Answer, answer, chart_named, is_session_named, session_named, fresh_session, cue_in, cue_of, queue_left, queue_of_phase, after_turn, posted_event, step_cue, step_in, step_found, ready}
 use Rattle.sc_law.specs.Run.{is_accepted_step}
 use Rattle.sc_law.specs.Entry.{first_entry}
 use Rattle.sc_law.specs.Microstep.{enter}
 use Rattle.sc_law.specs.Turn.{after_rest, after, turn, settle, round_limit, begin, take_event}
-use Rattle.sc_law.proofs.Changes.{Change, IsLive, refuses, installs, starts, queues, turns, change_of, with_fresh}
-use Rattle.sc_law.proofs.Found.{IsAt, is_at}
-use Rattle.sc_law.proofs.Once.{sum_replaced, external_front}
+use Rattle.sc_law.proofs.Changes.{Change, IsLive, refuses, installs, starts, queues, turns}
+use Rattle.sc_law.proofs.Found.{is_at}
+use Rattle.sc_law.proofs.Once.{sum_replaced}
 use Rattle.sc_law.proofs.Turns.{turn-session, turn_leaves_none}
 
 -- names of sessions are distinct
@@ -67,9 +65,10 @@ distinct_push [] y new h = (refl, tt)
 distinct_push (x ∷ xs) y new h =
     let here : bytes_eq x.state.session y.state.session ≡ false = or_left _ _ new in
     let rest : list_any (is_session_named y.state.session) xs ≡ false = or_right _ _ new in
-    let other = bytes_eq_comm x.state.session y.state.session here in
-    (list_any-append (is_session_named x.state.session) xs (y ∷ []) ∙ ap (λ b. b || (bytes_eq y.state.session x.state.session || false)) h.0 ∙ ap (λ b. b || false) other,
-     distinct_push xs y rest h.1)
+    let other = bytes_eq_comm x.state.session y.state.session here in (
+      list_any-append (is_session_named x.state.session) xs (y ∷ []) ∙ ap (λ b. b || (bytes_eq y.state.session x.state.session || false)) h.0 ∙ ap (λ b. b || false) other,
+      distinct_push xs y rest h.1,
+    )
 
 -- weight: what a session has still to do
 
@@ -143,9 +142,9 @@ named_not : (n : List ℕ) (s : SessionImage) (xs : List SessionImage) (p : Sess
 named_not n s [] p found none = absurd (cc)
 named_not n s (x ∷ xs) p found none =
     by_place (found_in p x xs s (p x) found) (λ behind. named_not n s xs p behind (or_right _ _ none)) where
-  by_place : FoundIn p x xs s → (find p xs ≡ Some s → bytes_eq s.state.session n ≡ false) → bytes_eq s.state.session n ≡ false
-  by_place (first same) others = ap (λ (y : SessionImage). bytes_eq y.state.session n) (sym same) ∙ or_left _ _ none
-  by_place (later behind) others = others behind
+      by_place : FoundIn p x xs s → (find p xs ≡ Some s → bytes_eq s.state.session n ≡ false) → bytes_eq s.state.session n ≡ false
+      by_place (first same) others = ap (λ (y : SessionImage). bytes_eq y.state.session n) (sym same) ∙ or_left _ _ none
+      by_place (later behind) others = others behind
 
 -- what a search by name gives, by whether the first item has it
 abbrev picked : SessionImage → List SessionImage → List ℕ → Bool → Option SessionImage
@@ -155,13 +154,13 @@ find_named : (p : SessionImage → Bool) (xs : List SessionImage) (s : SessionIm
 find_named p [] s distinct found = absurd (cc)
 find_named p (x ∷ xs) s distinct found =
     by_place (found_in p x xs s (p x) found) (λ behind. find_named p xs s distinct.1 behind) where
-  by_place : FoundIn p x xs s → (find p xs ≡ Some s → find (is_session_named s.state.session) xs ≡ Some s) → find (is_session_named s.state.session) (x ∷ xs) ≡ Some s
-  by_place (first same) others =
-      let named : bytes_eq x.state.session s.state.session ≡ true = (bytes_eq-Decides x.state.session s.state.session).1 (ap (λ (y : SessionImage). y.state.session) same) in
-      ap (picked x xs s.state.session) named ∙ ap (λ (y : SessionImage). Some y) same
-  by_place (later behind) others =
-      let other = bytes_eq_comm s.state.session x.state.session (named_not x.state.session s xs p behind distinct.0) in
-      ap (picked x xs s.state.session) other ∙ others behind
+      by_place : FoundIn p x xs s → (find p xs ≡ Some s → find (is_session_named s.state.session) xs ≡ Some s) → find (is_session_named s.state.session) (x ∷ xs) ≡ Some s
+      by_place (first same) others =
+          let named : bytes_eq x.state.session s.state.session ≡ true = (bytes_eq-Decides x.state.session s.state.session).1 (ap (λ (y : SessionImage). y.state.session) same) in
+          ap (picked x xs s.state.session) named ∙ ap (λ (y : SessionImage). Some y) same
+      by_place (later behind) others =
+          let other = bytes_eq_comm s.state.session x.state.session (named_not x.state.session s xs p behind distinct.0) in
+          ap (picked x xs s.state.session) other ∙ others behind
 
 -- the place of a session, and its cue
 pub record IsReadyAt (g : HostImage) (name : List ℕ) : Type 0 where

@@ -1,17 +1,16 @@
 -- The run of a script from the empty host keeps the whole promise.
-use Rattle.std.proofs.Common.{◌≡◌, ℕ, zero, suc, ◌+◌, ◌<◌, ◌≤◌, ◌⊎◌, inl, inr, Bool, true, false, ◌&&◌, cond, Option, Some, None, IsTrue, List, [], ◌∷◌, length, map, filter, count_by, refl, sym, ap, subst, ◌∙◌, arith, rules}
+use Rattle.std.proofs.Common.{◌≡◌, ℕ, zero, suc, ◌+◌, ◌<◌, ◌≤◌, Bool, true, false, ◌&&◌, cond, Option, Some, None, List, [], ◌∷◌, length, map, filter, refl, sym, ap, subst, ◌∙◌, arith, rules}
 use Rattle.std.specs.List.{list_all, AllByRecursion}
 use Rattle.std.proofs.lemmas.List.Sums.{sum_by-cons}
 use Rattle.sc_types.specs.declared.command.Command.{Command}
 use Rattle.sc_types.specs.declared.command.Command.TheVariants.{Install, Start, Post, Step}
 use Rattle.sc_types.specs.declared.command.Reply.{Reply}
 use Rattle.sc_types.specs.declared.history.Entry.{Entry}
-use Rattle.sc_types.specs.declared.history.Who.{Who}
 use Rattle.sc_types.specs.declared.history.Who.TheVariants.{Client, Worker}
 use Rattle.sc_types.specs.declared.host.HostImage.{HostImage}
 use Rattle.sc_law.specs.Host.{answer, ready, empty_host}
-use Rattle.sc_law.specs.History.{Tells, IsLegal, IsAtMostOnce, replay}
-use Rattle.sc_law.specs.Run.{Next, steps, makes, over, of_script, of_ready, next, Enters, Continues, IsRun, is_of, commands_of, is_accepted_step, served_by, is_served, Serves, IsNoStep, accepted_steps, IsHistoryOf}
+use Rattle.sc_law.specs.History.{IsLegal, replay}
+use Rattle.sc_law.specs.Run.{over, of_script, of_ready, next, Enters, Continues, IsRun, is_of, commands_of, is_accepted_step, served_by, is_served, IsNoStep, accepted_steps, IsHistoryOf}
 use Rattle.sc_law.proofs.Changes.{change_of}
 use Rattle.sc_law.proofs.Given.{given_from}
 use Rattle.sc_law.proofs.Once.{consumed_once}
@@ -80,15 +79,15 @@ quiet_of_run [] g cs zero distinct enough h = absurd (omega arith)
 quiet_of_run [] g cs (suc less) distinct enough h = (over_ready (ready g) cs h).0
 quiet_of_run (e ∷ es) g cs budget distinct enough h =
     by_first (first_entry g cs budget e es h) (λ cs' budget'. quiet_of_run es (answer g e.command).host cs' budget' (distinct_after g e distinct)) where
-  by_first : First g cs budget e (RunsOn es)
-      → ((cs' : List Command) (budget' : ℕ) → pending (answer g e.command).host + length cs' < budget' → IsRun (answer g e.command).host cs' budget' es → ready (replay (answer g e.command).host es) ≡ None)
-      → ready (replay g (e ∷ es)) ≡ None
-  by_first (stepped name less is is_ready enters rest) others =
-      let lower = step_lowers g name e distinct is_ready enters.command in
-      others cs less (omega (arith, lower, is)) rest
-  by_first (made c after is enters rest) others =
-      let raised = command_raises g e.command (answer g e.command) (change_of g e.command) in
-      others after budget (omega (arith, raised, ap length is)) rest
+      by_first : First g cs budget e (RunsOn es)
+          → ((cs' : List Command) (budget' : ℕ) → pending (answer g e.command).host + length cs' < budget' → IsRun (answer g e.command).host cs' budget' es → ready (replay (answer g e.command).host es) ≡ None)
+          → ready (replay g (e ∷ es)) ≡ None
+      by_first (stepped name less is is_ready enters rest) others =
+          let lower = step_lowers g name e distinct is_ready enters.command in
+          others cs less (omega (arith, lower, is)) rest
+      by_first (made c after is enters rest) others =
+          let raised = command_raises g e.command (answer g e.command) (change_of g e.command) in
+          others after budget (omega (arith, raised, ap length is)) rest
 
 -- the script is served
 
@@ -123,9 +122,9 @@ pub served_of_run : (history : List Entry) (g : HostImage) (cs : List Command) (
 served_of_run [] g cs budget distinct h = record { commands = sym (over_commands g cs budget h); others = refl }
 served_of_run (e ∷ es) g cs budget distinct h =
     by_first (first_entry g cs budget e es h) (λ cs' budget'. served_of_run es (answer g e.command).host cs' budget' (distinct_after g e distinct)) where
-  by_first : First g cs budget e (RunsOn es) → ((cs' : List Command) (budget' : ℕ) → IsRun (answer g e.command).host cs' budget' es → Served cs' es) → Served cs (e ∷ es)
-  by_first (stepped name less is is_ready enters rest) others = served_step g name e es cs distinct is_ready enters (others cs less rest)
-  by_first (made c after is enters rest) others = subst (λ xs. Served xs (e ∷ es)) (sym is) (served_command g c e es after enters (others after budget rest))
+      by_first : First g cs budget e (RunsOn es) → ((cs' : List Command) (budget' : ℕ) → IsRun (answer g e.command).host cs' budget' es → Served cs' es) → Served cs (e ∷ es)
+      by_first (stepped name less is is_ready enters rest) others = served_step g name e es cs distinct is_ready enters (others cs less rest)
+      by_first (made c after is enters rest) others = subst (λ xs. Served xs (e ∷ es)) (sym is) (served_command g c e es after enters (others after budget rest))
 
 -- no more steps are taken than the budget has
 
@@ -143,19 +142,19 @@ pub within_of_run : (history : List Entry) (g : HostImage) (cs : List Command) (
 within_of_run [] g cs budget none h = omega arith
 within_of_run (e ∷ es) g cs budget none h =
     by_first (first_entry g cs budget e es h) (within_of_run es (answer g e.command).host) where
-  by_first : First g cs budget e (RunsOn es)
-      → ((cs' : List Command) (budget' : ℕ) → AllByRecursion IsNoStep cs' → IsRun (answer g e.command).host cs' budget' es → accepted_steps es ≤ budget')
-      → accepted_steps (e ∷ es) ≤ budget
-  by_first (stepped name less is is_ready enters rest) others =
-      let few = others cs less none rest in
-      let first = sum_by-cons (λ (x : Entry). cond (is_accepted_step x.command x.reply) 1 0) e es in
-      omega (arith, few, first, one_if (is_accepted_step e.command e.reply), is)
-  by_first (made c after is enters rest) others =
-      let all = subst (AllByRecursion IsNoStep) is none in
-      let few = others after budget all.1 rest in
-      let first = sum_by-cons (λ (x : Entry). cond (is_accepted_step x.command x.reply) 1 0) e es in
-      let not : is_accepted_step e.command e.reply ≡ false = ap (λ x. is_accepted_step x e.reply) enters.command ∙ no_step c e.reply all.0 in
-      omega (arith, few, first, ap {B = ℕ} (λ b. cond b 1 0) not)
+      by_first : First g cs budget e (RunsOn es)
+          → ((cs' : List Command) (budget' : ℕ) → AllByRecursion IsNoStep cs' → IsRun (answer g e.command).host cs' budget' es → accepted_steps es ≤ budget')
+          → accepted_steps (e ∷ es) ≤ budget
+      by_first (stepped name less is is_ready enters rest) others =
+          let few = others cs less none rest in
+          let first = sum_by-cons (λ (x : Entry). cond (is_accepted_step x.command x.reply) 1 0) e es in
+          omega (arith, few, first, one_if (is_accepted_step e.command e.reply), is)
+      by_first (made c after is enters rest) others =
+          let all = subst (AllByRecursion IsNoStep) is none in
+          let few = others after budget all.1 rest in
+          let first = sum_by-cons (λ (x : Entry). cond (is_accepted_step x.command x.reply) 1 0) e es in
+          let not : is_accepted_step e.command e.reply ≡ false = ap (λ x. is_accepted_step x e.reply) enters.command ∙ no_step c e.reply all.0 in
+          omega (arith, few, first, ap {B = ℕ} (λ b. cond b 1 0) not)
 
 -- the whole promise, for a script of so few commands that the budget is never met
 pub history_of_run : (cs : List Command) (budget : ℕ) (history : List Entry) → AllByRecursion IsNoStep cs → length cs < budget → IsRun empty_host cs budget history → IsHistoryOf cs budget history

@@ -1,5 +1,5 @@
 -- Settling, by one round.
-use Rattle.std.proofs.Common.{◌≡◌, ℕ, zero, suc, ◌+◌, ◌-◌, ◌<◌, Bool, true, false, Option, Some, None, is_some, refl, ap, ◌∙◌, arith}
+use Rattle.std.proofs.Common.{◌≡◌, ℕ, zero, suc, ◌+◌, ◌-◌, ◌<◌, true, false, Option, Some, None, is_some, refl, ap, ◌∙◌, arith}
 use Rattle.std.specs.Option.{option_map_or}
 use Rattle.sc_types.specs.declared.chart.Chart.{Chart}
 use Rattle.sc_law.specs.declared.run_state.RunState.{RunState}
@@ -31,6 +31,7 @@ pub settle_at_end : (c : Chart) (n i : ℕ) (r : RunState) → n ≡ i → is_so
 settle_at_end c n i r e h = ap (λ (k : ℕ). settle c k r) zero_left ∙ by_cases (next_round c r) refl h where
   zero_left : n - i ≡ 0
   zero_left = omega (arith, e)
+
   by_cases : (o : Option RunState) → next_round c r ≡ o → is_some o ≡ true → settle c 0 r ≡ (false, r)
   by_cases None k t = absurd (cc)
   by_cases (Some next) k t = settle_runs_away c r next k

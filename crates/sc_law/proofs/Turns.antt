@@ -17,7 +17,7 @@ use Rattle.sc_law.specs.Entry.{first_entry, entry}
 use Rattle.sc_law.specs.Microstep.{exit_states, is_onentry, run_blocks, joined, enter_state, enter_states, enter, run_contents, microstep}
 use Rattle.sc_law.specs.Selection.{select}
 use Rattle.sc_law.specs.Sets.{transition_node, exit_set}
-use Rattle.sc_law.specs.Turn.{bind, take_event, internal_round, eventless_round, next_round, start_invokes, settle, round_limit, begin, after_rest, after, finish, turn}
+use Rattle.sc_law.specs.Turn.{bind, take_event, internal_round, eventless_round, next_round, start_invokes, settle, round_limit, begin, after_rest, after, turn}
 use Rattle.sc_law.proofs.Changes.{IsLive}
 
 -- nothing in a turn changes the name of the session

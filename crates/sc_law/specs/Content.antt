@@ -1,5 +1,5 @@
 -- Executable content (SCXML 4): what a block of elements does to a run.
-use Rattle.std.specs.Prelude.{ℕ, Option, option_and_then, unwrap_or, List, [], ◌∷◌, ◌++◌, codes}
+use Rattle.std.specs.Prelude.{option_and_then, unwrap_or, List, [], ◌∷◌, ◌++◌, codes}
 use Rattle.std.specs.Option.{option_map_or}
 use Rattle.sc_types.specs.declared.chart.Expr.{Expr}
 use Rattle.sc_types.specs.declared.chart.Expr.TheVariants.{Text}

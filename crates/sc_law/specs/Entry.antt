@@ -1,6 +1,6 @@
 -- Which states a microstep enters (SCXML Appendix D, computeEntrySet, addDescendantStatesToEnter and
 -- addAncestorStatesToEnter).
-use Rattle.std.specs.Prelude.{ℕ, ◌<◌, Option, Some, None, nat_lt, if◌then◌else◌, List, [], ◌∷◌, filter}
+use Rattle.std.specs.Prelude.{ℕ, nat_lt, if◌then◌else◌, List, [], ◌∷◌, filter}
 use Rattle.std.specs.Option.{option_map_or}
 use Rattle.sc_types.specs.declared.chart.Chart.{Chart}
 use Rattle.sc_law.specs.declared.entry.EntryTriple.{EntryTriple}

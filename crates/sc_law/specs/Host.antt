@@ -1,5 +1,5 @@
 -- The host machine: what it answers to a command, and the host after it. This host's own rule.
-use Rattle.std.specs.Prelude.{ℕ, ◌+◌, ◌==◌, Bool, true, false, not, if◌then◌else◌, nat_lt, is_some, Option, Some, None, option_map, option_and_then, unwrap_or, List, [], ◌∷◌, ◌++◌, length, drop, find, position, slice_get, slice_set}
+use Rattle.std.specs.Prelude.{ℕ, ◌+◌, ◌==◌, Bool, false, not, if◌then◌else◌, nat_lt, is_some, Option, Some, None, option_map, option_and_then, unwrap_or, List, [], ◌∷◌, ◌++◌, length, drop, find, position, slice_get, slice_set}
 use Rattle.std.specs.List.{list_any}
 use Rattle.std.specs.Str.{bytes_eq}
 use Rattle.sc_types.specs.FlatChart.{flat_chart_of, chart_of}
@@ -108,8 +108,19 @@ install g name text =
 
 abbrev pub fresh_state : List ℕ → List ℕ → SessionState
 fresh_state session chart = record {
-  session = session; chart = chart; phase = phase.Fresh; configuration = []; values = []; entered = []; histories = [];
-  internal = []; invokes = []; bound = None; params = []; sends = 0; born = 0;
+  session = session;
+  chart = chart;
+  phase = phase.Fresh;
+  configuration = [];
+  values = [];
+  entered = [];
+  histories = [];
+  internal = [];
+  invokes = [];
+  bound = None;
+  params = [];
+  sends = 0;
+  born = 0;
 }
 
 abbrev pub fresh_session : List ℕ → List ℕ → SessionImage
@@ -135,7 +146,14 @@ pairs_data (p ∷ ps) = Pairs (p ∷ ps)
 
 abbrev pub posted_event : ℕ → List ℕ → List (List ℕ × Value) → Event
 posted_event number name pairs = record {
-  number = number; name = name; kind = kind.External; sendid = []; origin = []; origintype = []; invokeid = []; payload = pairs_data pairs;
+  number = number;
+  name = name;
+  kind = kind.External;
+  sendid = [];
+  origin = [];
+  origintype = [];
+  invokeid = [];
+  payload = pairs_data pairs;
 }
 
 -- an event joins a session's external queue under the next number

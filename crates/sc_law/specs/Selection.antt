@@ -1,6 +1,6 @@
 -- Which transitions a microstep takes (SCXML 3.13, Appendix D selectEventlessTransitions, selectTransitions and
 -- removeConflictingTransitions).
-use Rattle.std.specs.Prelude.{ℕ, ◌+◌, ◌==◌, Bool, true, false, not, ◌&&◌, ◌||◌, if◌then◌else◌, is_none, Option, Some, None, option_and_then, List, [], ◌∷◌, ◌++◌, filter, find, codes}
+use Rattle.std.specs.Prelude.{ℕ, ◌+◌, ◌==◌, Bool, true, false, not, ◌&&◌, if◌then◌else◌, is_none, Option, Some, None, List, [], ◌∷◌, ◌++◌, filter, find, codes}
 use Rattle.std.specs.Option.{option_map_or}
 use Rattle.std.specs.List.{list_any, flat_map}
 use Rattle.sc_types.specs.Descriptors.{any_matches}

@@ -1,6 +1,6 @@
 -- Ordered sets, effective targets, domains and exit sets (SCXML Appendix D). A set of states is the ascending
 -- list of its numbers, which is document order.
-use Rattle.std.specs.Prelude.{ℕ, ◌==◌, Bool, false, not, ◌&&◌, nat_lt, Option, Some, None, option_and_then, unwrap_or, List, [], ◌∷◌, ◌++◌, filter, find, slice_get, codes}
+use Rattle.std.specs.Prelude.{ℕ, ◌==◌, Bool, false, not, nat_lt, Option, Some, None, option_and_then, unwrap_or, List, [], ◌∷◌, ◌++◌, filter, find, slice_get, codes}
 use Rattle.std.specs.Option.{option_map_or}
 use Rattle.std.specs.List.{list_any, list_all, filter_map}
 use Rattle.sc_types.specs.declared.chart.Chart.{Chart}

@@ -4,12 +4,10 @@ ghost use Rattle.sc_law.specs.Tree.{member, plain_text, code_of};
 ghost use Rattle.sc_types.specs.declared.chart.Node.{out-Node};
 ghost use Rattle.sc_law.specs.Content.{value_of, log_line, run_element, run_block};
 
-use std::alloc::Global;
-
-use sc_types::{Bytes, Expr, LogLine, Member, NoMemory, Node, Plain, Sequence, Tag, Value};
-
 use crate::run_state::RunState;
 use crate::tree::member;
+use sc_types::{Bytes, Expr, LogLine, Member, NoMemory, Node, Plain, Sequence, Tag, Value};
+use std::alloc::Global;
 
 fn value_of(alloc: Global, code: &Expr) -> Result<Value, NoMemory>
     ensures { IfOk result (λ v. v ≡ value_of code.now) }
@@ -51,11 +49,7 @@ fn run_element(alloc: Global, node: &Node, run: &mut RunState) -> Result<(), NoM
 }
 
 /// Runs the elements of a block in order. After want of memory the run is to be given up.
-pub(crate) fn run_block(
-    alloc: Global,
-    block: &[Node],
-    run: &mut RunState,
-) -> Result<(), NoMemory>
+pub(crate) fn run_block(alloc: Global, block: &[Node], run: &mut RunState) -> Result<(), NoMemory>
     ensures { OnOk result (run.new ≡ run_block block.now run.old) }
 {
     for node in block {

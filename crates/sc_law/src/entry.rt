@@ -1,12 +1,10 @@
 ghost use Rattle.std.specs.Prelude.{◌≡◌, ◌++◌, IfOk, OnOk, [], filter};
 ghost use Rattle.sc_law.specs.Tree.{is_below};
 
-use std::alloc::Global;
-
-use sc_types::{NoMemory, Sequence};
-
 use crate::sets::{domain, put, put_all, targets};
 use crate::tree::{Transition, Tree, state_number};
+use sc_types::{NoMemory, Sequence};
+use std::alloc::Global;
 
 /// What a microstep enters: the states, those among them that are entered by default, and the histories whose
 /// default content is to run.

@@ -4,25 +4,18 @@ ghost use Rattle.sc_law.specs.Microstep.{enter};
 ghost use Rattle.sc_law.specs.Entry.{first_entry};
 ghost use Rattle.sc_law.specs.Turn.{take_event, next_round, start_invokes, settle, begin, after, finish, turn};
 
-use std::alloc::Global;
-
-use sc_types::{Cue, Data, Event, How, NoMemory, Phase, Plain, Sequence, SessionState};
-
 use crate::entry::EntryTriple;
 use crate::microstep::{enter, microstep};
 use crate::run_state::{RunState, TurnResult};
 use crate::selection::select;
 use crate::tree::Tree;
+use sc_types::{Cue, Data, Event, How, NoMemory, Phase, Plain, Sequence, SessionState};
+use std::alloc::Global;
 
 /// The rounds that a turn may take.
 const ROUND_LIMIT: u32 = 1000;
 
-fn take_event(
-    alloc: Global,
-    tree: &Tree,
-    event: &Event,
-    run: &mut RunState,
-) -> Result<(), NoMemory>
+fn take_event(alloc: Global, tree: &Tree, event: &Event, run: &mut RunState) -> Result<(), NoMemory>
     ensures { OnOk result (run.new ≡ take_event tree.now event.now run.old) }
 {
     run.state.bound = Some(event.copy(alloc)?);

@@ -11,8 +11,7 @@ mod selection;
 mod sets;
 mod tree;
 
-
 pub use entry::EntryTriple;
+pub use interpreter::turn;
 pub use run_state::{Effect, RunState, TurnResult};
 pub use tree::{Path, Transition, Tree};
-pub use interpreter::turn;

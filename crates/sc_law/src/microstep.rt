@@ -2,15 +2,13 @@ ghost use Rattle.std.specs.Prelude.{◌≡◌, OnOk, [], ◌∷◌, filter};
 ghost use Rattle.sc_types.specs.declared.chart.Node.{out-Node};
 ghost use Rattle.sc_law.specs.Microstep.{exit_states, is_onentry, run_blocks, joined, enter_state, enter_states, enter, run_contents, microstep};
 
-use std::alloc::Global;
-
-use sc_types::{NoMemory, Node, Tag};
-
 use crate::content::run_block;
 use crate::entry::EntryTriple;
 use crate::run_state::RunState;
 use crate::sets::{exit_set, put, transition_node, without};
 use crate::tree::{Transition, Tree};
+use sc_types::{NoMemory, Node, Tag};
+use std::alloc::Global;
 
 fn exit_states(alloc: Global, gone: &[u32], run: &mut RunState) -> Result<(), NoMemory>
     ensures { OnOk result (run.new ≡ exit_states gone.now run.old) }

@@ -6,14 +6,12 @@ ghost use Rattle.sc_law.specs.Tree.{is_atomic, ancestors};
 ghost use Rattle.sc_law.specs.Sets.{leaves};
 ghost use Rattle.sc_law.specs.Selection.{is_transition, transitions_among, transitions_of, matches_event, is_enabled, first_enabled, is_same, choose, chosen, conflicts, gives_way, keep, kept_from, select};
 
-use std::alloc::Global;
-
-use sc_names::piece_matches;
-use sc_types::{Bytes, Member, NoMemory, Node, Sequence, Tag};
-
 use crate::run_state::RunState;
 use crate::sets::{leaves, transition_node};
 use crate::tree::{Transition, Tree, member};
+use sc_names::piece_matches;
+use sc_types::{Bytes, Member, NoMemory, Node, Sequence, Tag};
+use std::alloc::Global;
 
 fn is_transition(tag: Tag) -> bool
     ensures { result ≡ is_transition tag }
@@ -65,11 +63,7 @@ fn is_enabled(tree: &Tree, event: Option<&[u8]>, transition: Transition) -> bool
     }
 }
 
-fn first_of(
-    tree: &Tree,
-    event: Option<&[u8]>,
-    candidates: &[Transition],
-) -> Option<Transition>
+fn first_of(tree: &Tree, event: Option<&[u8]>, candidates: &[Transition]) -> Option<Transition>
     ensures { result ≡ find (is_enabled tree.now (option_copied event.entry)) candidates.now }
 {
     candidates
@@ -79,11 +73,7 @@ fn first_of(
 }
 
 /// The transitions of an atomic state and of its ancestors, from the nearest.
-fn candidates(
-    alloc: Global,
-    tree: &Tree,
-    state: u32,
-) -> Result<Sequence<Transition>, NoMemory>
+fn candidates(alloc: Global, tree: &Tree, state: u32) -> Result<Sequence<Transition>, NoMemory>
     ensures { IfOk result (λ ts. ts ≡ flat_map (transitions_of tree.now) (state ∷ ancestors tree.now state)) }
 {
     let mut found = Sequence::new(alloc);

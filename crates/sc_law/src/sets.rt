@@ -4,11 +4,9 @@ ghost use Rattle.std.specs.Option.{option_copied, option_map_or};
 ghost use Rattle.sc_law.specs.Tree.{state_named, words_of, member};
 ghost use Rattle.sc_law.specs.Sets.{put, put_all, contains, without, transition_node, targets, is_above_all, nearest_above, domain_over, domain, leaves, exit_set};
 
-use std::alloc::Global;
-
-use sc_types::{Bytes, Member, NoMemory, Node, Sequence};
-
 use crate::tree::{Transition, Tree, member, state_number};
+use sc_types::{Bytes, Member, NoMemory, Node, Sequence};
+use std::alloc::Global;
 
 /// Appendix D, OrderedSet: a state joins an ascending set.
 pub(crate) fn put(alloc: Global, state: u32, set: &[u32]) -> Result<Sequence<u32>, NoMemory>
@@ -43,11 +41,7 @@ fn push_above(out: &mut Sequence<u32>, state: u32, set: &[u32]) -> Result<(), No
     Ok(())
 }
 
-pub(crate) fn put_all(
-    alloc: Global,
-    states: &[u32],
-    set: &[u32],
-) -> Result<Sequence<u32>, NoMemory>
+pub(crate) fn put_all(alloc: Global, states: &[u32], set: &[u32]) -> Result<Sequence<u32>, NoMemory>
     ensures { IfOk result (λ s. s ≡ put_all states.now set.now) }
 {
     let mut grown = Sequence::from_slice(alloc, set)?;

@@ -4,10 +4,9 @@ ghost use Rattle.std.specs.Option.{option_copied, option_map_or};
 ghost use Rattle.std.specs.Str.{bytes_eq};
 ghost use Rattle.sc_law.specs.Tree.{own_path, state_paths, paths_from, node_at, path_of, node_of, kids_of, leads_on, is_below, numbers_where, ancestors, is_atomic, member, id_of, has_id, state_named};
 
+use sc_types::{Chart, Member, NoMemory, Node, Plain, Sequence, Tag};
 use std::alloc::Global;
 use std::marker::Model;
-
-use sc_types::{Chart, Member, NoMemory, Node, Plain, Sequence, Tag};
 
 /// The places among child elements that lead from the root to an element.
 pub type Path = Sequence<usize>;
@@ -30,7 +29,6 @@ impl Model for Tree {
     ghost use Rattle.std.specs.Prelude.{◌≡◌};
     ghost use Rattle.sc_types.specs.declared.chart.Chart.{Chart};
     ghost use Rattle.sc_law.specs.Tree.{state_paths};
-
     ghost use Rattle.sc_types.specs.contracts.chart.Chart as chart_type;
     ghost use Rattle.std.specs.Coded.{codes};
 
@@ -110,7 +108,9 @@ impl Tree {
     pub fn state_named(&self, id: &[u8]) -> Option<usize>
         ensures { result ≡ state_named self.now id.now }
     {
-        self.paths().iter().position(|path| self.has_id(id, path.slice()))
+        self.paths()
+            .iter()
+            .position(|path| self.has_id(id, path.slice()))
     }
 
     /// The id of a state, where it has one.

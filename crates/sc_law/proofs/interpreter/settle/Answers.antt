@@ -1,7 +1,6 @@
-use Rattle.std.proofs.Common.{◌≡◌, ◌<◌, ◌-◌, true, false, Some, None, is_some, sym, ap, ◌∙◌, arith, rules}
-use Rattle.std.proofs.lemmas.Grind.{common_steps}
+use Rattle.std.proofs.Common.{◌≡◌, ◌<◌, true, Some, None, is_some, sym, ap, ◌∙◌, arith, rules}
 use Rattle.sc_law.specs.declared.run_state.RunState.{RunState}
-use Rattle.sc_law.specs.Turn.{next_round, start_invokes, settle}
+use Rattle.sc_law.specs.Turn.{next_round, start_invokes}
 use Rattle.sc_law.proofs.Rounds.{settle_rests, settle_counts, settle_at_end}
 use Rattle.sc_law.proofs.interpreter.settle.Goals as goal
 

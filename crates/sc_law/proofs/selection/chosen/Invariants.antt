@@ -1,4 +1,4 @@
-use Rattle.std.proofs.Common.{◌≡◌, ◌++◌, [], drop}
+use Rattle.std.proofs.Common.{◌≡◌, [], drop}
 use Rattle.std.specs.Option.{option_copied}
 use Rattle.sc_law.specs.Selection.{chosen_from}
 use Rattle.sc_law.proofs.selection.chosen.Given as goal

@@ -1,4 +1,4 @@
-use Rattle.std.proofs.Common.{arith, append_assoc, rules}
+use Rattle.std.proofs.Common.{arith}
 use Rattle.std.proofs.lemmas.Grind.{common_steps}
 use Rattle.sc_law.proofs.Paths.{paths_from_node}
 use Rattle.sc_law.proofs.tree.+paths.Goals as goal
