@@ -3,7 +3,7 @@ use Rattle.std.proofs.Common.{◌≡◌, ℕ, ◌+◌, ◌<◌, ◌≤◌, ◌�
 use Rattle.std.proofs.lemmas.Bool.{cases_order}
 use Rattle.std.proofs.lemmas.Bool.Decides.{nat_tests}
 use Rattle.std.specs.List.{list_any}
-use Rattle.sc_bits.specs.Rows.{has, with_number, joined}
+use Rattle.sc_bits.specs.Rows.{IsAscending, has, with_number, joined}
 use Rattle.sc_bits.specs.Words.{numbers}
 
 put : Bool → ℕ → List ℕ → List ℕ
@@ -24,6 +24,16 @@ numbers-none f i (suc c) h =
     let here : f i ≡ false = h i (omega arith) (omega arith) in
     let later : numbers f (i + 1) c ≡ [] = numbers-none f (i + 1) c (λ k p q. h k (omega arith) (omega arith)) in
     ap₂ (λ v ms. put v i ms) here later
+
+pub numbers-ascending : (f : ℕ → Bool) (j i c w : ℕ) → j ≤ i → i + c ≤ w → IsAscending j w (numbers f i c)
+numbers-ascending f j i zero w a b = tt
+numbers-ascending f j i (suc c) w a b =
+    by (f i) (numbers-ascending f (i + 1) (i + 1) c w (omega arith) (omega arith)) (numbers-ascending f j (i + 1) c w (omega arith) (omega arith))
+  where
+    by : (v : Bool) → IsAscending (i + 1) w (numbers f (i + 1) c) → IsAscending j w (numbers f (i + 1) c)
+        → IsAscending j w (cond v (i ∷ numbers f (i + 1) c) (numbers f (i + 1) c))
+    by true above also = (a, omega arith, above)
+    by false above also = also
 
 filter-put : (p : ℕ → Bool) (v : Bool) (i : ℕ) (ms : List ℕ) → filter p (put v i ms) ≡ put (v && p i) i (filter p ms)
 unfolding put

@@ -1,5 +1,5 @@
 -- What new words make of the members of a row.
-use Rattle.std.proofs.Common.{◌≡◌, ℕ, ◌+◌, ◌<◌, ◌≤◌, ◌==◌, ◌&&◌, ◌||◌, inl, inr, nat_le, Bool, true, false, not, filter, find, Option, None, Some, MatchOption, List, [], refl, arith, ap, sym, ◌∙◌}
+use Rattle.std.proofs.Common.{◌≡◌, ℕ, ◌+◌, ◌<◌, ◌≤◌, ◌==◌, ◌&&◌, ◌||◌, inl, inr, nat_le, Bool, true, false, not, filter, find, Option, None, Some, MatchOption, IfSome, List, [], refl, arith, ap, sym, ◌∙◌}
 use Rattle.std.proofs.lemmas.Bool.{cases_lt}
 use Rattle.std.proofs.lemmas.Bool.Decides.{nat_tests}
 use Rattle.std.specs.Bool.{MatchBool}
@@ -107,3 +107,9 @@ next-member w n words (Some m) h i =
     let within : m < w = common_within w words true m h (ap (λ v. v && true) i.set) in
     sym (find-found (λ j. nat_le n j) (bit_of words) 0 w m (omega arith) (omega arith) (le-true n m (bit_of words m) i.later i.set)
     (λ k a b. le-false n k (bit_of words k) (λ l. i.first k l b)))
+
+pub next-within : (w n : ℕ) (words : List ℕ) (result : Option ℕ) → Holds w words
+    → MatchOption result ((k : ℕ) → n ≤ k → bit_of words k ≡ false) (IsNextBit words n)
+    → IfSome result (λ m. (n ≤ m) × (m < w))
+next-within w n words None h none = tt
+next-within w n words (Some m) h i = (i.later, common_within w words true m h (ap (λ v. v && true) i.set))

@@ -1,6 +1,6 @@
-ghost use Rattle.std.specs.Prelude.{◌≡◌, ◌<◌, ◌==◌, nat_le, not, find, filter, [], IfOk};
+ghost use Rattle.std.specs.Prelude.{◌≡◌, ◌<◌, ◌≤◌, ◌==◌, nat_le, not, find, filter, [], IfOk, IfSome};
 ghost use Rattle.std.specs.List.{list_any};
-ghost use Rattle.sc_bits.specs.Rows.{has, with_number, joined};
+ghost use Rattle.sc_bits.specs.Rows.{IsAscending, has, with_number, joined};
 
 use crate::words::{
     clear_bit, clear_words, has_bit, join_words, meet_words, minus_words, next_bit, set_bit,
@@ -113,7 +113,9 @@ impl Row {
 
     /// The first member that is at least `from`.
     pub fn next(&self, from: u32) -> Option<u32>
-        ensures { result ≡ find (λ m. nat_le from m) self.now.members }
+        ensures value { result ≡ find (λ m. nat_le from m) self.now.members }
+        ensures within { IfSome result (λ n. (from ≤ n) × (n < self.now.width)) }
+        ensures form { IsAscending 0 self.now.width self.now.members }
     {
         next_bit(self.words.as_slice(), from)
     }
