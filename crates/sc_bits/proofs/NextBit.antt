@@ -1,10 +1,10 @@
 -- The first bit from a place on.
-use Rattle.std.proofs.Common.{◌≡◌, ◌≢◌, ℕ, ◌+◌, ◌-◌, ◌*◌, ◌/◌, ◌%◌, ◌^◌, ◌<◌, ◌≤◌, ◌==◌, ◌⊎◌, inl, inr, min, Bool, true, false, List, length, get_or, bit_and, refl, arith, ap, ap₂, sym, ◌∙◌}
+use Rattle.std.proofs.Common.{◌≡◌, ◌≢◌, ℕ, ◌+◌, ◌-◌, ◌*◌, ◌/◌, ◌%◌, ◌^◌, ◌<◌, ◌≤◌, inl, inr, min, false, List, get_or, bit_and, arith, ap, sym, ◌∙◌}
 use Rattle.std.proofs.lemmas.Bool.{cases_lt}
 use Rattle.std.proofs.lemmas.Nat.Bits.{bit_at-zero, bit_at-lt, bit_at_and, bit_at-trailing_zeros, bit_at_mask_inside, bit_at_mask_below, ones_shl}
 use Rattle.std.specs.Int.{bit_at, w64, trailing_zeros}
 use Rattle.sc_bits.specs.Words.{bit_of, IsNextBit}
-use Rattle.sc_bits.proofs.Bits.{is_one, is_one-zero, is_one-one, bit_of-at}
+use Rattle.sc_bits.proofs.Bits.{is_one-zero, is_one-one, bit_of-at}
 
 -- no bit is set from `from` up to `to`
 abbrev pub NoneBetween : List ℕ → ℕ → ℕ → Type 0

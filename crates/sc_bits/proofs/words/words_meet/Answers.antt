@@ -1,4 +1,4 @@
-use Rattle.std.proofs.Common.{◌<◌, bit_and, get_or, arith}
+use Rattle.std.proofs.Common.{get_or, arith}
 use Rattle.std.proofs.lemmas.Nat.{and_le_l}
 use Rattle.sc_bits.proofs.Bits.{bits-none, bits-common}
 use Rattle.sc_bits.proofs.words.words_meet.Goals as goal

@@ -1,4 +1,4 @@
-use Rattle.std.proofs.Common.{◌≡◌, ap, sym, ◌∙◌}
+use Rattle.std.proofs.Common.{ap, sym, ◌∙◌}
 use Rattle.sc_bits.specs.Words.{bit_of}
 use Rattle.sc_bits.proofs.RowLemmas.{has-member}
 use Rattle.sc_bits.proofs.row.Row.has.Goals as goal

@@ -1,4 +1,3 @@
-use Rattle.std.proofs.Common.{◌≡◌}
 use Rattle.sc_bits.proofs.RowLemmas.{meets-members}
 use Rattle.sc_bits.proofs.row.Row.meets.Goals as goal
 
