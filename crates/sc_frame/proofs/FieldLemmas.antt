@@ -1,6 +1,6 @@
 -- A number is read from its own field, and what is read from bytes has them as its field.
 use Rattle.std.proofs.Common.{◌≡◌, ℕ, zero, suc, ◌+◌, ◌-◌, ◌*◌, ◌/◌, ◌%◌, ◌^◌, ◌<◌, ◌≤◌, nat_le, List, [], ◌∷◌, ◌++◌, length, take, drop, get_or, refl, arith, ap, ap₂, sym, ◌∙◌}
-use Rattle.std.proofs.Common.{Option, None, Some, IfSome, Bool, true, false, cond, unwrap_or, subst, inl, inr, add_comm, ℤ, length-append, take-append-drop, option_map, option_and_then, append_assoc, pos, negsuc, length-drop}
+use Rattle.std.proofs.Common.{Option, None, Some, IfSome, true, false, cond, unwrap_or, subst, inl, inr, add_comm, ℤ, length-append, take-append-drop, option_map, option_and_then, append_assoc, pos, negsuc, length-drop}
 use Rattle.std.proofs.Math.Seq.{take-add, take-append_seam, drop-append_seam}
 use Rattle.std.proofs.lemmas.Bool.Decides.{nat_tests}
 use Rattle.std.proofs.lemmas.Bool.{cases_lt}
@@ -8,12 +8,10 @@ use Rattle.std.proofs.lemmas.List.{length-take-le, get_or-drop, drop-drop, take_
 use Rattle.std.proofs.lemmas.Int.{to_z-of_z, of_z-to_z}
 use Rattle.std.specs.Prelude.{FitsSigned}
 use Rattle.std.specs.Int.{w64, cast_signed, cast_unsigned}
-use Rattle.std.specs.Option.{IsSomeAnd}
-use Rattle.std.specs.Borrow.{Bor}
 use Rattle.std.proofs.Math.Nat.{div-one, mul_assoc, one-le-pow, pow-suc, mod-eq_of_lt, add-mul-div_right}
 use Rattle.std.proofs.lemmas.Nat.{pow-add, div-mul-add}
 use Rattle.std.specs.Int.{byte_at, bytes_high_first}
-use Rattle.byteorder.specs.Endian.{big_from, big_number, big_bytes}
+use Rattle.byteorder.specs.Endian.{big_from, big_number}
 use Rattle.byteorder.specs.Numbers.{big_from-cons, big_from-lt, big_number-reads_back, length-bytes_high_first}
 use Rattle.sc_frame.specs.Fields.{number_field, int_field, bytes_field, field_number, StandsAt, number_at, int_at, part_at, bytes_at}
 

@@ -1,4 +1,4 @@
-use Rattle.std.proofs.Common.{◌≡◌, ◌∙◌, ℕ, ◌+◌, ◌-◌, None, Some, Option, option_and_then, IfSome, List, length, take, drop, arith, ap, sym, subst}
+use Rattle.std.proofs.Common.{◌≡◌, ◌∙◌, ℕ, None, Option, option_and_then, IfSome, List, arith, ap, sym, subst}
 use Rattle.sc_frame.specs.Fields.{StandsAt, bytes_field, part_at, bytes_at}
 use Rattle.sc_frame.proofs.FieldLemmas.{part_at-short, part_at-read, bytes_at-put, bytes_at-stands, none_some, some_pair}
 use Rattle.sc_frame.proofs.get.get_bytes.Goals as goal
