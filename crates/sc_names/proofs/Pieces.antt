@@ -1,9 +1,9 @@
 -- The pieces of a text between white space.
-use Rattle.std.proofs.Common.{◌≡◌, ℕ, ◌+◌, ◌-◌, ◌<◌, ◌≤◌, ◌&&◌, ◌||◌, inl, inr, zero, suc, nat_lt, Bool, true, false, cond, filter, List, [], ◌∷◌, ◌++◌, length, take, drop, get_or, refl, arith, ap, sym, ◌∙◌, length-take, get_or-take, get_or-drop, drop-cons, take-append-drop, length-drop}
+use Rattle.std.proofs.Common.{◌≡◌, ℕ, ◌+◌, ◌-◌, ◌<◌, ◌≤◌, ◌&&◌, ◌||◌, inl, inr, suc, nat_lt, Bool, true, false, cond, filter, List, [], ◌∷◌, ◌++◌, length, take, drop, get_or, refl, arith, ap, sym, ◌∙◌, length-take, get_or-take, get_or-drop, drop-cons, take-append-drop, length-drop}
 use Rattle.std.proofs.lemmas.List.{drop-drop, take_rest}
 use Rattle.std.proofs.lemmas.Bool.{cases_lt}
 use Rattle.std.specs.List.{list_any}
-use Rattle.sc_types.specs.Descriptors.{is_white_space, grow_first, split_at, pieces, piece_matches, any_matches, matches}
+use Rattle.sc_types.specs.Descriptors.{is_white_space, grow_first, split_at, piece_matches, matches}
 
 -- the text has no white space
 abbrev pub IsSolid : List ℕ → Type 0
