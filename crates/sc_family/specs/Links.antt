@@ -1,5 +1,5 @@
 -- The links of invoked sessions. This host's own rule; SCXML 6.4 speaks of one invoked session at a time.
-use Rattle.std.specs.Prelude.{ℕ, Bool, true, false, not, if◌then◌else◌, Option, None, Some, find, map, List}
+use Rattle.std.specs.Prelude.{ℕ, Bool, true, false, not, if◌then◌else◌, Option, find, map, List}
 use Rattle.std.specs.Option.{option_map_or}
 use Rattle.std.specs.Str.{bytes_eq}
 use Rattle.sc_family.specs.declared.link.Link.{Link}

@@ -1,4 +1,3 @@
-use Rattle.std.proofs.Common.{◌≡◌}
 use Rattle.sc_family.proofs.ChainLemmas.{Searches}
 use Rattle.sc_family.proofs.chain.place_in_chain.Given as goal
 

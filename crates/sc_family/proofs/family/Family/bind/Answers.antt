@@ -1,4 +1,4 @@
-use Rattle.std.proofs.Common.{◌≡◌, ℕ, ◌+◌, ◌-◌, ◌<◌, ◌≤◌, ◌++◌, ◌∷◌, [], ◌==◌, cond, length, length-append, List, arith, ap, ap₂, sym, ◌∙◌}
+use Rattle.std.proofs.Common.{◌≡◌, ℕ, ◌+◌, ◌-◌, ◌<◌, ◌≤◌, ◌++◌, ◌∷◌, [], ◌==◌, cond, length, length-append, List, arith, ap, ap₂, ◌∙◌}
 use Rattle.sc_family.specs.declared.link.Link.{Link}
 use Rattle.sc_family.specs.Chains.{end_of, hash_of}
 use Rattle.sc_family.proofs.ChainLemmas.{indexed-bind, new-link_for}

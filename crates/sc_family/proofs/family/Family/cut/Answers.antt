@@ -1,4 +1,4 @@
-use Rattle.std.proofs.Common.{◌≡◌, ℕ, ◌+◌, ◌≤◌, length, refl, arith, ap, sym, ◌∙◌, subst}
+use Rattle.std.proofs.Common.{refl, sym}
 use Rattle.std.proofs.Math.ListN.{length-set}
 use Rattle.sc_family.specs.Chains.{end_of}
 use Rattle.sc_family.proofs.ChainLemmas.{is_live-new, is_live-place, cut_off-new, cut_off-place, indexed-set}
