@@ -1,5 +1,5 @@
 -- The search for the place of a new send among the dues.
-use Rattle.std.proofs.Common.{◌≡◌, ℕ, ◌+◌, ◌<◌, ◌≤◌, List, length, get_or, arith}
+use Rattle.std.proofs.Common.{ℕ, ◌+◌, ◌<◌, ◌≤◌, List, length, get_or, arith}
 use Rattle.sc_timers.specs.Order.{IsPlaceAfter}
 
 -- each is at most those behind it

@@ -1,14 +1,12 @@
 -- Sends in due order, and the keys under which they are kept.
-use Rattle.std.proofs.Common.{◌≡◌, ◌≢◌, ℕ, ◌+◌, ◌-◌, ◌<◌, ◌≤◌, ◌==◌, ◌&&◌, ◌||◌, ◌⊎◌, inl, inr, zero, suc, nat_lt, nat_le, nat_eq, Bool, true, false, not, cond, Option, None, Some, filter, map, List, [], ◌∷◌, ◌++◌, length, get_or, take, drop, refl, arith, ap, ap₂, sym, ◌∙◌, subst}
-use Rattle.std.proofs.lemmas.Bool.{cases_order, cases_lt}
+use Rattle.std.proofs.Common.{◌≡◌, ◌≢◌, ℕ, ◌<◌, ◌≤◌, zero, suc, nat_le, Bool, true, false, cond, Option, None, Some, map, List, [], ◌∷◌, length, get_or, drop, refl, arith, ap, ap₂, sym, ◌∙◌, subst}
 use Rattle.std.proofs.lemmas.Bool.Decides.{nat_tests}
-use Rattle.std.specs.Prelude.{All, IsSome, IfSome, is_some, insert, slice_get, count_by}
+use Rattle.std.specs.Prelude.{All, IsSome, IfSome, insert, slice_get}
 use Rattle.std.specs.Bool.{MatchBool}
 use Rattle.std.specs.List.{cons_option}
 use Rattle.sc_timers.specs.declared.timed.Timed.{Timed}
 use Rattle.sc_timers.specs.Sends.{TimersOf, is_before, with_send, IsBeforeAll, IsInDueOrder}
-use Rattle.sc_timers.specs.Order.{sends_at, AreFull, IsAway, AreDistinct, AreKept, IsPlaceAfter, unless, AreSwept}
-use Rattle.sc_timers.proofs.Places.{AreSorted}
+use Rattle.sc_timers.specs.Order.{sends_at, AreFull, IsAway, AreDistinct, AreKept, IsPlaceAfter}
 
 none_some : (t : Timed) → ◌≡◌ {A = Option Timed} None (Some t) → ⊥
 none_some t e = cc

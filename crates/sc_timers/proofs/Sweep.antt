@@ -1,15 +1,14 @@
 -- The walk that takes sends out of the slab, and what is left of the keys.
-use Rattle.std.proofs.Common.{◌≡◌, ◌≢◌, ℕ, ◌+◌, ◌-◌, ◌<◌, ◌≤◌, ◌&&◌, ◌⊎◌, inl, inr, zero, suc, Bool, true, false, not, cond, Option, None, Some, filter, List, [], ◌∷◌, length, get_or, take, refl, arith, ap, ap₂, sym, ◌∙◌, subst}
-use Rattle.std.proofs.lemmas.Bool.{cases_order, cases_lt}
+use Rattle.std.proofs.Common.{◌≡◌, ◌≢◌, ℕ, ◌+◌, ◌<◌, ◌≤◌, inl, inr, zero, suc, Bool, true, false, not, cond, Option, None, Some, filter, List, [], ◌∷◌, length, get_or, take, refl, arith, ap, sym, ◌∙◌, subst}
+use Rattle.std.proofs.lemmas.Bool.{cases_lt}
 use Rattle.std.proofs.lemmas.List.{take_more, take_all}
 use Rattle.std.proofs.lemmas.List.Sums.{sum_by-append}
 use Rattle.std.proofs.lemmas.Option.{get_or_from_slice_get}
-use Rattle.std.specs.Prelude.{IsSome, is_some, slice_get, count_by}
-use Rattle.std.specs.List.{cons_option}
+use Rattle.std.specs.Prelude.{is_some, slice_get, count_by}
 use Rattle.sc_timers.specs.declared.timed.Timed.{Timed}
-use Rattle.sc_timers.specs.Sends.{is_before, IsBeforeAll, IsInDueOrder}
+use Rattle.sc_timers.specs.Sends.{IsBeforeAll, IsInDueOrder}
 use Rattle.sc_timers.specs.Order.{sends_at, AreFull, IsAway, AreDistinct, AreKept, unless, AreSwept}
-use Rattle.sc_timers.proofs.SendLemmas.{slice_get-sends, length-sends, full_some, is_full, sends-cons}
+use Rattle.sc_timers.proofs.SendLemmas.{slice_get-sends, length-sends, full_some, sends-cons}
 
 -- ---- distinct keys by place
 

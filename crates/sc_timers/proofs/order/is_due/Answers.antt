@@ -1,8 +1,8 @@
-use Rattle.std.proofs.Common.{◌≡◌, ◌==◌, ℕ, ◌<◌, ◌≤◌, false, length, deque_len, get_or, arith, sym, ◌∙◌}
+use Rattle.std.proofs.Common.{◌≡◌, ◌==◌, ℕ, ◌<◌, false, length, deque_len, arith}
 use Rattle.std.proofs.lemmas.Bool.Decides.{nat_tests}
 use Rattle.slab.specs.Slab.{get as send_at}
 use Rattle.sc_timers.specs.Order.{sends_at}
-use Rattle.sc_timers.proofs.SendLemmas.{dues_of, none-due, told-by}
+use Rattle.sc_timers.proofs.SendLemmas.{none-due, told-by}
 use Rattle.sc_timers.proofs.order.is_due.Goals as goal
 
 positive : (n : ℕ) → false ≡ (n == 0) → 0 < n

@@ -1,7 +1,7 @@
-use Rattle.std.proofs.Common.{◌≡◌, ◌+◌, ◌-◌, ◌/◌, length, arith, ap, sym, ◌∙◌}
+use Rattle.std.proofs.Common.{◌+◌, ◌-◌, ◌/◌, arith, ◌∙◌}
 use Rattle.slab.specs.Slab.{get as send_at}
 use Rattle.sc_timers.specs.Order.{sends_at}
-use Rattle.sc_timers.proofs.Places.{narrows-low, narrows-high, narrows-done}
+use Rattle.sc_timers.proofs.Places.{narrows-low, narrows-high}
 use Rattle.sc_timers.proofs.SendLemmas.{dues_of, dues-sorted, length-dues, length-sends}
 use Rattle.sc_timers.proofs.order.place_after.Goals as goal
 

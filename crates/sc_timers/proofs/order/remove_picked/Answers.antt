@@ -1,6 +1,4 @@
-use Rattle.std.proofs.Common.{◌≡◌, arith, ap, sym, ◌∙◌}
 use Rattle.slab.specs.Slab.{get as send_at}
-use Rattle.sc_timers.specs.Order.{sends_at}
 use Rattle.sc_timers.proofs.Sweep.{sends-left, kept-left}
 use Rattle.sc_timers.proofs.order.remove_picked.Goals as goal
 

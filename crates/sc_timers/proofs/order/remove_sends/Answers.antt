@@ -1,11 +1,9 @@
-use Rattle.std.proofs.Common.{◌≡◌, ◌≢◌, ℕ, ◌+◌, ◌<◌, ◌≤◌, Some, List, Bool, get_or, length, Option, refl, subst, arith, ap, sym, ◌∙◌}
-use Rattle.std.specs.Borrow.{Bor}
+use Rattle.std.proofs.Common.{◌≡◌, ◌<◌, ◌≤◌, get_or, length, Option, refl, subst, arith, ap, sym, ◌∙◌}
 use Rattle.std.specs.Prelude.{IsSome}
 use Rattle.sc_timers.specs.declared.timed.Timed.{Timed}
 use Rattle.slab.specs.Slab.{get as send_at}
 use Rattle.std.proofs.lemmas.Grind.{get_or_default_zero}
-use Rattle.sc_timers.specs.Sends.{is_picked}
-use Rattle.sc_timers.proofs.SendLemmas.{is_full, full-at}
+use Rattle.sc_timers.proofs.SendLemmas.{full-at}
 use Rattle.sc_timers.proofs.Sweep.{sweep-starts, sweep-keeps, sweep-takes, sweep-ends, sweep-count}
 use Rattle.sc_timers.proofs.order.remove_sends.Goals as goal
 use Rattle.sc_timers.proofs.order.remove_sends.Goals.{then-is_picked, else-is_picked}

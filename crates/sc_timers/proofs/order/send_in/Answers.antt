@@ -1,4 +1,4 @@
-use Rattle.std.proofs.Common.{◌≡◌, None, arith, sym, ◌∙◌, ap}
+use Rattle.std.proofs.Common.{sym, ◌∙◌, ap}
 use Rattle.slab.specs.Slab.{get as send_at}
 use Rattle.std.proofs.lemmas.Grind.{get_or_default_zero}
 use Rattle.sc_timers.proofs.SendLemmas.{none_full}

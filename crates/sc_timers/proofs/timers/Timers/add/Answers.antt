@@ -1,7 +1,7 @@
-use Rattle.std.proofs.Common.{◌≡◌, ◌+◌, ◌-◌, ◌<◌, ◌≤◌, length, deque_len, deque_capacity, arith, ap, sym, ◌∙◌}
+use Rattle.std.proofs.Common.{◌-◌, ◌<◌, arith, ◌∙◌}
 use Rattle.slab.specs.Slab.{get as send_at}
 use Rattle.sc_timers.specs.Order.{sends_at}
-use Rattle.sc_timers.proofs.SendLemmas.{dues_of, length-dues, length-sends, added, same_timers}
+use Rattle.sc_timers.proofs.SendLemmas.{length-dues, length-sends, added, same_timers}
 use Rattle.sc_timers.proofs.timers.Timers.add.Goals as goal
 
 pub insert-requires : goal.insert-requires

@@ -1,4 +1,4 @@
-use Rattle.std.proofs.Common.{◌≡◌, ℕ, Option, arith, ap, sym, ◌∙◌, subst}
+use Rattle.std.proofs.Common.{ℕ, Option, arith, ap, sym, subst}
 use Rattle.slab.specs.Slab.{get as send_at, slab_len}
 use Rattle.sc_timers.specs.declared.timed.Timed.{Timed}
 use Rattle.sc_timers.specs.Order.{AreKept}
