@@ -20,9 +20,6 @@ fn a_link_is_cut_once(rt: HostRuntime) -> Result<(), Fail> {
     assert!(rt; !family.cut(b"p/1"));
     family.reserve(2)?;
     let first = link(alloc, b"p/1")?;
-    if family.link_of(first.child.bytes()).is_some() {
-        return Ok(());
-    }
     family.bind(first);
     assert_eq!(rt; family.link_of(b"p/1").map(|link| link.depth), Some(2));
     assert!(rt; family.link_of(b"p/2").is_none());

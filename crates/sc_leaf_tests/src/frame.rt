@@ -1,4 +1,6 @@
-use sc_frame::{get_bytes, get_i64, get_u16, get_u32, get_u64, put_bytes, put_i64, put_u16, put_u32, put_u64};
+use sc_frame::{
+    get_bytes, get_i64, get_u16, get_u32, get_u64, put_bytes, put_i64, put_u16, put_u32, put_u64,
+};
 use std::test::Fail;
 
 #[test]
