@@ -17,7 +17,8 @@ below-cons : (n : ℕ) (t : Timed) (ss : List Timed) → t.number < n → AreBel
 below-cons n t ss h a zero d b = h
 below-cons n t ss h a (suc k) d b = a k d (omega arith)
 
-below-rest : (n : ℕ) (t : Timed) (ss : List Timed) → AreBelow n (t ∷ ss) → AreBelow n ss
+-- also what `take_due` leaves
+pub below-rest : (n : ℕ) (t : Timed) (ss : List Timed) → AreBelow n (t ∷ ss) → AreBelow n ss
 below-rest n t ss a k d b = a (suc k) d (omega arith)
 
 pub below-with_send : (n : ℕ) (t : Timed) (ss : List Timed) → t.number < n → AreBelow n ss → AreBelow n (with_send t ss)
