@@ -1,5 +1,5 @@
 -- For callers of `add`: the numbers of the pending sends stay below the next number.
-use Rattle.std.proofs.Common.{ℕ, ◌+◌, ◌<◌, ◌≤◌, zero, suc, Bool, true, false, cond, List, [], ◌∷◌, length, get_or, arith}
+use Rattle.std.proofs.Common.{ℕ, ◌<◌, ◌≤◌, zero, suc, Bool, true, false, cond, List, [], ◌∷◌, arith}
 use Rattle.std.specs.Prelude.{All}
 use Rattle.sc_timers.specs.declared.timed.Timed.{Timed}
 use Rattle.sc_timers.specs.Sends.{is_before, with_send}

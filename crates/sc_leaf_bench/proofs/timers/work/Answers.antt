@@ -1,4 +1,4 @@
-use Rattle.std.proofs.Common.{ℕ, ◌+◌, ◌<◌, List, arith, subst}
+use Rattle.std.proofs.Common.{◌+◌, ◌<◌, List, arith, subst}
 use Rattle.sc_timers.specs.declared.timed.Timed.{Timed}
 use Rattle.sc_timers.proofs.CallerLemmas.{AreBelow, below-more, below-rest, below-with_send}
 use Rattle.sc_leaf_bench.proofs.timers.work.Goals as goal
