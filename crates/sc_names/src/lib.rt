@@ -4,5 +4,7 @@
 #![tactic(auto)]
 
 mod descriptor;
+mod text;
 
 pub use descriptor::piece_matches;
+pub use text::matches;

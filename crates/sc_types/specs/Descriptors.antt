@@ -30,7 +30,7 @@ dropped piece = if ends_with nat_eq piece (codes ".*") then take (length piece -
     else (if ends_with nat_eq piece (codes ".") then take (length piece - 1) piece else piece)
 
 -- whether a descriptor matches the name of an event: it is `*`, or its tokens are the first tokens of the name
-abbrev pub piece_matches : List ℕ → List ℕ → Bool
+unfoldable pub piece_matches : List ℕ → List ℕ → Bool
 piece_matches piece name = bytes_eq piece (codes "*") || starts_with bytes_eq (tokens name) (tokens (dropped piece))
 
 abbrev pub any_matches : List (List ℕ) → List ℕ → Bool

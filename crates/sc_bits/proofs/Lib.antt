@@ -1,0 +1,4 @@
+pub mod Bits
+pub mod NextBit
+pub mod Numbers
+pub mod RowLemmas

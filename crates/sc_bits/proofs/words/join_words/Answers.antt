@@ -1,0 +1,6 @@
+use Rattle.std.proofs.Common.{arith}
+use Rattle.sc_bits.proofs.Bits.{bit_of-or}
+use Rattle.sc_bits.proofs.words.join_words.Goals as goal
+
+pub returns : goal.returns
+returns c = bit_of-or c.args.words.now c.args.other.now c.loop-i.words c.requires (omega arith) (λ i h. c.loop-i.invariant.done i (omega arith))

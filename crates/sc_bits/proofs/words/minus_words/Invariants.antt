@@ -1,0 +1,9 @@
+use Rattle.std.proofs.Common.{◌≡◌, ℕ, ◌<◌, ◌≤◌, get_or, bit_and}
+use Rattle.std.specs.Int.{w64, bit_not}
+use Rattle.sc_bits.proofs.words.minus_words.Given as goal
+
+abbrev pub invariant-loop-i : goal.invariant-loop-i
+invariant-loop-i l = record {
+  done : (k : ℕ) → k < l.i → get_or l.words k 0 ≡ bit_and (get_or l.initial.words k 0) (bit_not w64 (get_or l.other k 0));
+  left : (k : ℕ) → l.i ≤ k → get_or l.words k 0 ≡ get_or l.initial.words k 0;
+}

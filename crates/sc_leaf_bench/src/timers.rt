@@ -1,0 +1,61 @@
+ghost use Rattle.std.specs.Prelude.{◌≡◌, ◌<◌, IfSome};
+
+use sc_timers::{Timed, Timers};
+use sc_types::{Bytes, Data, Event, Kind, Name, To, Word};
+use std::alloc::Global;
+
+fn event(alloc: Global) -> Option<Event> {
+    Some(Event {
+        number: 0,
+        name: Name::of(alloc, b"e").ok()?,
+        kind: Kind::External,
+        sendid: Bytes::new(alloc),
+        origin: Bytes::new(alloc),
+        origintype: Bytes::new(alloc),
+        invokeid: Bytes::new(alloc),
+        payload: Data::Absent,
+    })
+}
+
+fn send(alloc: Global, number: u64, due: u64) -> Option<Timed>
+    ensures { IfSome result (λ t. t.number ≡ number) }
+{
+    Some(Timed {
+        session: Word::of(alloc, b"s").ok()?,
+        number,
+        due,
+        event: event(alloc)?,
+        to: To::Own,
+    })
+}
+
+// The next number of a sequence that looks random.
+fn mixed(seed: u64) -> u64 {
+    seed.wrapping_mul(6364136223846793005)
+        .wrapping_add(1442695040888963407)
+}
+
+// Keeps so many sends pending, and in each round takes the first out and adds another. A send is due up to
+// `spread` after its number.
+pub fn work(alloc: Global, size: u32, rounds: u32, spread: u64) -> Option<u64>
+    requires { 0 < spread }
+{
+    let mut timers = Timers::new(alloc);
+    let mut seed = 1u64;
+    for number in 0..size as u64 {
+        seed = mixed(seed);
+        timers.reserve(1).ok()?;
+        timers.add(send(alloc, number, number.wrapping_add((seed >> 20) % spread))?);
+    }
+    let mut sum = 0u64;
+    for number in size as u64..size as u64 + rounds as u64 {
+        seed = mixed(seed);
+        let mut taken = timers.take_due(u64::MAX)?;
+        sum = sum.wrapping_mul(31).wrapping_add(taken.number);
+        taken.number = number;
+        taken.due = number.wrapping_add((seed >> 20) % spread);
+        timers.reserve(1).ok()?;
+        timers.add(taken);
+    }
+    Some(sum)
+}

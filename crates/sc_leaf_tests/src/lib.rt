@@ -1,0 +1,13 @@
+//! Tests of the small crates at the bottom: worked examples, and each call once with ample memory.
+#![tactic(auto)]
+
+#[cfg(test)]
+mod family;
+#[cfg(test)]
+mod frame;
+#[cfg(test)]
+mod names;
+#[cfg(test)]
+mod rows;
+#[cfg(test)]
+mod timers;

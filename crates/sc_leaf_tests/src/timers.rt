@@ -1,0 +1,65 @@
+ghost use Rattle.std.specs.Prelude.{◌≡◌, IfOk};
+
+use sc_timers::{Timed, Timers};
+use sc_types::{Bytes, Data, Event, Kind, Name, To, Word};
+use std::alloc::Global;
+use std::test::Fail;
+
+fn event(alloc: Global, sendid: &[u8]) -> Result<Event, Fail> {
+    Ok(Event {
+        number: 0,
+        name: Name::of(alloc, b"e")?,
+        kind: Kind::External,
+        sendid: Bytes::from_slice(alloc, sendid)?,
+        origin: Bytes::new(alloc),
+        origintype: Bytes::new(alloc),
+        invokeid: Bytes::new(alloc),
+        payload: Data::Absent,
+    })
+}
+
+fn send(alloc: Global, number: u64, due: u64) -> Result<Timed, Fail>
+    ensures { IfOk result (λ t. t.number ≡ number) }
+{
+    Ok(Timed {
+        session: Word::of(alloc, b"s")?,
+        number,
+        due,
+        event: event(alloc, b"i")?,
+        to: To::Own,
+    })
+}
+
+fn three(alloc: Global) -> Result<Timers, Fail> {
+    let mut timers = Timers::new(alloc);
+    timers.reserve(3)?;
+    timers.add(send(alloc, 1, 9)?);
+    timers.add(send(alloc, 2, 5)?);
+    timers.add(send(alloc, 3, 5)?);
+    Ok(timers)
+}
+
+#[test]
+fn sends_come_by_due_time_and_then_by_number(rt: HostRuntime) -> Result<(), Fail> {
+    let mut timers = three(rt.alloc())?;
+    assert_eq!(rt; timers.get(2).map(|send| send.number), Some(1));
+    assert!(rt; timers.get(3).is_none());
+    assert!(rt; timers.take_due(4).is_none());
+    for number in [2, 3, 1] {
+        assert_eq!(rt; timers.take_due(9).map(|send| send.number), Some(number));
+    }
+    assert!(rt; timers.take_due(9).is_none());
+    Ok(())
+}
+
+#[test]
+fn sends_are_cancelled_by_id_and_discarded_by_session(rt: HostRuntime) -> Result<(), Fail> {
+    let mut timers = three(rt.alloc())?;
+    assert_eq!(rt; timers.cancel_all(b"s", b"other"), 0);
+    assert_eq!(rt; timers.discard(b"other"), 0);
+    assert_eq!(rt; timers.cancel_all(b"s", b"i"), 3);
+    let mut timers = three(rt.alloc())?;
+    assert_eq!(rt; timers.discard(b"s"), 3);
+    assert!(rt; timers.take_due(9).is_none());
+    Ok(())
+}

@@ -1,0 +1,4 @@
+pub mod CallerLemmas
+pub mod Places
+pub mod SendLemmas
+pub mod Sweep

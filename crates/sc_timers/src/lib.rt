@@ -1,0 +1,11 @@
+//! The delayed sends that are pending (SCXML 6.2), in the order in which they come due.
+//!
+//! Only `reserve` takes memory.
+#![tactic(auto)]
+
+mod order;
+mod timed;
+mod timers;
+
+pub use timed::Timed;
+pub use timers::Timers;
