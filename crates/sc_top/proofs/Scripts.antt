@@ -1,5 +1,5 @@
 -- What a script of the first form has: no step, and few commands.
-use Rattle.std.proofs.Common.{◌≡◌, ℕ, ◌+◌, ◌<◌, ◌≤◌, List, [], ◌∷◌, ◌++◌, length, length-append, map, get_or, refl, sym, ap, subst, ◌∙◌, arith}
+use Rattle.std.proofs.Common.{◌≡◌, ℕ, ◌<◌, ◌≤◌, List, [], ◌∷◌, length, length-append, map, get_or, sym, ap, subst, arith}
 use Rattle.std.specs.List.{flat_map, AllByRecursion}
 use Rattle.sc_types.specs.declared.command.Command.{Command}
 use Rattle.sc_law.specs.Lines.{line, command_text}

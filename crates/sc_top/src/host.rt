@@ -4,16 +4,14 @@ ghost use Rattle.std.specs.Option.{option_copied};
 ghost use Rattle.sc_law.specs.Host.{empty_host, is_too_long, has_chart, chart_place, chart_named, bare_chart, session_place, session_named, not_read, fresh_state, fresh_session, has_slash, pairs_data, posted_event, waiting_cue, cue_of, name_of, queue_left, queue_of_phase, ready};
 ghost use Rattle.sc_law.specs.Turn.{turn};
 
-use std::alloc::Global;
-
+use crate::chart_reader::read_flat_chart;
 use sc_law::{Tree, TurnResult, turn};
 use sc_types::{
     Bytes, Chart, ChartFault, ChartImage, Command, Cue, CueName, Data, Delivery, Event, HostImage,
     Kind, LogLine, NoMemory, Node, PairList, Phase, Plain, Refusal, Reply, Sequence, SessionImage,
     SessionState, Tag, Word,
 };
-
-use crate::chart_reader::read_flat_chart;
+use std::alloc::Global;
 
 /// The host: its plain data, and the tree of each installed chart at that chart's place.
 #[derive(Debug, Drop)]
@@ -66,12 +64,7 @@ impl Host {
         }
     }
 
-    fn install(
-        &mut self,
-        alloc: Global,
-        name: &Word,
-        text: &Bytes,
-    ) -> Result<Answered, NoMemory>
+    fn install(&mut self, alloc: Global, name: &Word, text: &Bytes) -> Result<Answered, NoMemory>
         requires held { IsHeld self.old }
         requires room { self.old.image.commands + 1 < 2 ^ 64 }
         ensures answer { IfOk result (DoesAnswer (install self.old.image name.now text.now) self.new) }
@@ -95,12 +88,7 @@ impl Host {
         Ok(Answered::new(alloc, Reply::Installed, Sequence::new(alloc)))
     }
 
-    fn start(
-        &mut self,
-        alloc: Global,
-        session: &Word,
-        chart: &Word,
-    ) -> Result<Answered, NoMemory>
+    fn start(&mut self, alloc: Global, session: &Word, chart: &Word) -> Result<Answered, NoMemory>
         requires held { IsHeld self.old }
         requires room { self.old.image.commands + 1 < 2 ^ 64 }
         ensures answer { IfOk result (DoesAnswer (start self.old.image session.now chart.now) self.new) }
@@ -182,7 +170,12 @@ impl Host {
     }
 
     /// The turn of a session with this cue.
-    fn turn_of(&self, alloc: Global, session: &SessionImage, cue: &Cue) -> Result<TurnResult, NoMemory>
+    fn turn_of(
+        &self,
+        alloc: Global,
+        session: &SessionImage,
+        cue: &Cue,
+    ) -> Result<TurnResult, NoMemory>
         requires { IsHeld self.now }
         ensures { IfOk result (λ t. t ≡ turn (chart_named self.now.image session.now.state.chart) session.now.state cue.now) }
     {
@@ -236,7 +229,11 @@ impl Host {
 fn chart_place(image: &HostImage, name: &[u8]) -> Option<usize>
     ensures { result ≡ chart_place image.now name.now }
 {
-    image.charts.slice().iter().position(|c| c.name.bytes() == name)
+    image
+        .charts
+        .slice()
+        .iter()
+        .position(|c| c.name.bytes() == name)
 }
 
 fn bare_tree(alloc: Global) -> Result<Tree, NoMemory>
@@ -271,7 +268,11 @@ fn cue_of(alloc: Global, session: &SessionImage) -> Result<Option<Cue>, NoMemory
 {
     match &session.state.phase {
         Phase::Fresh => Ok(Some(Cue::Fresh)),
-        Phase::Running => waiting_cue(alloc, session.state.internal.slice(), session.queued.slice()),
+        Phase::Running => waiting_cue(
+            alloc,
+            session.state.internal.slice(),
+            session.queued.slice(),
+        ),
         Phase::Ended(_) => Ok(None),
     }
 }

@@ -11,21 +11,24 @@ ghost use Rattle.sc_dev.specs.Transfer.{AppendsPart, ConsumesUpTo};
 ghost use Rattle.sc_top.specs.FirstForm.{IsFirstForm};
 ghost use Rattle.sc_top.specs.Promise.{IsRunWords, Reports, Says, Output};
 
-use std::alloc::Global;
-
-use sc_dev::{ReadFault, Sink, Source, read_up_to, write_all};
-use sc_types::{Command, NoMemory};
-
 use crate::report::report_of;
 use crate::run::run_script;
 use crate::script_reader::{ScriptRefusal, read_script};
+use sc_dev::{ReadFault, Sink, Source, read_up_to, write_all};
+use sc_types::{Command, NoMemory};
+use std::alloc::Global;
 
 /// The statuses of the program.
 const DONE: u8 = 0;
+
 const OTHER_WORDS: u8 = 1;
+
 const READ_FAULT: u8 = 4;
+
 const WRITE_FAULT: u8 = 5;
+
 const OUT_OF_MEMORY: u8 = 7;
+
 const NO_SCRIPT: u8 = 12;
 
 /// The most bytes that a script may have.
@@ -38,12 +41,7 @@ const STEP_BUDGET: u64 = 1_000_000;
 /// `run --workers 0`; the source has the script, and the sink takes the report, or the line that names the
 /// status: 1 `words`, 4 `read`, 12 `not-built` where the text is no script of the first form. After 5, the sink
 /// failed and has taken a front of what was to be written; after 7 memory was wanting and nothing was written.
-pub fn top<S: Source, K: Sink>(
-    alloc: Global,
-    words: &[String],
-    source: &mut S,
-    sink: &mut K,
-) -> u8
+pub fn top<S: Source, K: Sink>(alloc: Global, words: &[String], source: &mut S, sink: &mut K) -> u8
     ensures said { result ≢ 5 → result ≢ 7 → (text : List ℕ)
         × Says (map string_bytes words.now) (S.left source.old) (Rose (S.faults source.old) (S.faults source.new)) result text
         × Appends (K.taken sink.old) (K.taken sink.new) text }

@@ -6,11 +6,9 @@ ghost use Rattle.sc_law.specs.Run.{IsRun};
 ghost use Rattle.sc_top.specs.Held.{IsHeld};
 ghost use Rattle.sc_top.specs.Running.{HasRun};
 
-use std::alloc::Global;
-
-use sc_types::{Command, Entry, NoMemory, Plain, Sequence, Who};
-
 use crate::host::Host;
+use sc_types::{Command, Entry, NoMemory, Plain, Sequence, Who};
+use std::alloc::Global;
 
 /// A run under way: the host, the history so far, and how many steps are left.
 #[derive(Debug, Drop)]

@@ -1,8 +1,6 @@
-use Rattle.std.proofs.Common.{◌≡◌, ℕ, sym, ap, subst, ◌∙◌, codes, map, string_bytes, IfSome, rules}
+use Rattle.std.proofs.Common.{sym, subst, codes, map, string_bytes, rules}
 use Rattle.sc_dev.specs.Causes.{Rose}
-use Rattle.sc_types.specs.declared.command.Command.{Command}
-use Rattle.sc_top.specs.FirstForm.{IsFirstForm}
-use Rattle.sc_top.specs.Promise.{IsRunWords, script_read, Reports, Says, other_words, read_fault, no_script, ran, Output}
+use Rattle.sc_top.specs.Promise.{IsRunWords, script_read, Reports, other_words, read_fault, no_script, ran}
 use Rattle.sc_top.proofs.Sayings.{said, cut, told_text}
 use Rattle.sc_top.proofs.program.top.Goals as goal
 
@@ -55,4 +53,3 @@ returns-in-Ok-None-clause-cut g c =
     let told = told_text (g.S.Source.left c.args.source.now) script_read c.in-Ok.text.items c.as_slice.result.now (sym c.as_slice.ensures.value) c.in-Ok.ensures.bytes in
     let none = c.in-Ok-None.ensures.none (cc) in
     λ is5. cut (map string_bytes c.args.words.now) (g.S.Source.left c.args.source.now) _ 12 (codes "not-built\n") _ _ (no_script c.as_slice.result.now run told none) (c.say-in-Ok-None.ensures.cut is5)
-

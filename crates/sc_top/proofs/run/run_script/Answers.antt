@@ -1,4 +1,4 @@
-use Rattle.std.proofs.Common.{◌≡◌, ℕ, suc, ◌∷◌, ◌+◌, ◌<◌, List, [], length, drop, get_or, drop-cons, add-one, refl, sym, ap, subst, ◌∙◌, arith, rules}
+use Rattle.std.proofs.Common.{◌≡◌, ℕ, suc, ◌∷◌, ◌+◌, drop, drop-cons, add-one, sym, ap, subst, ◌∙◌, arith}
 use Rattle.std.proofs.lemmas.List.{drop_all}
 use Rattle.sc_types.specs.declared.command.Command.{Command}
 use Rattle.sc_types.specs.declared.host.HostImage.{HostImage}
@@ -29,8 +29,8 @@ loop-command-preserved c =
     let m = c.in_ok-make.ensures in
     let stepped = c.in_ok-step_all-2.ensures in
     let here : drop i all ≡ c.in_ok-copy.field-0 ∷ rest =
-        drop-cons all i c.command-item.result (omega arith) ∙ ap (λ (x : Command). x ∷ drop (suc i) all) (sym c.command-item.is ∙ sym c.in_ok-copy.ensures)
-        ∙ ap (λ (j : ℕ). c.in_ok-copy.field-0 ∷ drop j all) (sym (add-one i)) in
+    drop-cons all i c.command-item.result (omega arith) ∙ ap (λ (x : Command). x ∷ drop (suc i) all) (sym c.command-item.is ∙ sym c.in_ok-copy.ensures)
+    ∙ ap (λ (j : ℕ). c.in_ok-copy.field-0 ∷ drop j all) (sym (add-one i)) in
     let before = subst (λ cs. IsUnderWay c.loop-command.run c.args.budget all cs) here at.underway in
     let made = underway_goes _ _ c.args.budget all (c.in_ok-copy.field-0 ∷ rest) rest before (goes_by_command _ _ c.in_ok-copy.field-0 rest at.stepped m) in
     record {
