@@ -22,56 +22,62 @@ fn other_words_are_no_command(rt: HostRuntime) -> Result<(), Fail> {
 }
 
 /// A chart of one state, and what follows it in a script.
-const CHART: &[u8] = br#"chart m {"tag":"scxml","kids":[{"tag":"state","id":"a"}]}"#;
+const CHART: &str = r#"chart m {"tag":"scxml","kids":[{"tag":"state","id":"a"}]}"#;
 
-const START: &[u8] = b"\nstart s m\n";
+const START: &str = "\nstart s m\n";
 
-/// Texts that are no script of this version, each for another reason: its first line, and the rest.
-const OTHER_TEXTS: [(&str, &[u8], &[u8]); 14] = [
-    ("no text", b"", b""),
-    ("no start", CHART, b"\n"),
-    ("a name that is not UTF-8", CHART, b"\nstart \xff m\n"),
-    ("no last line feed", CHART, b"\nstart s m"),
-    ("two spaces", CHART, b"\nstart s m\npost s  e\n"),
-    ("a space at a line's end", CHART, b" \nstart s m\n"),
-    ("a carriage return", CHART, b"\nstart s m\r\n"),
-    ("a start of another chart", CHART, b"\nstart s n\n"),
-    (
-        "a post to another session",
-        CHART,
-        b"\nstart s m\npost t e\n",
-    ),
-    (
-        "a second chart",
-        CHART,
-        b"\nchart n {\"tag\":\"scxml\",\"kids\":[{\"tag\":\"state\",\"id\":\"a\"}]}\nstart s m\n",
-    ),
-    (
-        "an unknown target",
-        br#"chart m {"tag":"scxml","kids":[{"tag":"state","id":"a","kids":[{"tag":"transition","event":"e","target":"b"}]}]}"#,
-        START,
-    ),
-    (
-        "an id that stands twice",
-        br#"chart m {"tag":"scxml","kids":[{"tag":"state","id":"a"},{"tag":"state","id":"a"}]}"#,
-        START,
-    ),
-    ("no states", br#"chart m {"tag":"scxml","kids":[]}"#, START),
-    (
-        "a log that is not UTF-8",
-        b"chart m {\"tag\":\"scxml\",\"kids\":[{\"tag\":\"state\",\"id\":\"a\",\"kids\":[{\"tag\":\"onentry\",\"kids\":[{\"tag\":\"log\",\"expr\":\"'\xff'\"}]}]}]}",
-        START,
-    ),
-];
+const SECOND_CHART: &str =
+    "\nchart n {\"tag\":\"scxml\",\"kids\":[{\"tag\":\"state\",\"id\":\"a\"}]}\nstart s m\n";
+
+const UNKNOWN_TARGET: &str =
+    r#"chart m {"tag":"scxml","kids":[{"tag":"state","id":"a","kids":[{"tag":"transition","event":"e","target":"b"}]}]}"#;
+
+const ID_TWICE: &str =
+    r#"chart m {"tag":"scxml","kids":[{"tag":"state","id":"a"},{"tag":"state","id":"a"}]}"#;
+
+const NO_STATES: &str = r#"chart m {"tag":"scxml","kids":[]}"#;
 
 #[test]
 fn other_texts_are_not_built(rt: HostRuntime) -> Result<(), Fail> {
-    for (what, first, rest) in OTHER_TEXTS {
-        let mut text = Vec::from_slice(rt.alloc(), first)?;
-        text.extend_from_slice(rest)?;
+    for (what, first, rest) in [
+        ("no text", "", ""),
+        ("no start", CHART, "\n"),
+        ("no last line feed", CHART, "\nstart s m"),
+        ("two spaces", CHART, "\nstart s m\npost s  e\n"),
+        ("a space at a line's end", CHART, " \nstart s m\n"),
+        ("a carriage return", CHART, "\nstart s m\r\n"),
+        ("a start of another chart", CHART, "\nstart s n\n"),
+        (
+            "a post to another session",
+            CHART,
+            "\nstart s m\npost t e\n",
+        ),
+        ("a second chart", CHART, SECOND_CHART),
+        ("an unknown target", UNKNOWN_TARGET, START),
+        ("an id that stands twice", ID_TWICE, START),
+        ("no states", NO_STATES, START),
+    ] {
+        let mut text = Vec::from_slice(rt.alloc(), first.as_bytes())?;
+        text.extend_from_slice(rest.as_bytes())?;
         let outcome = call(rt.alloc(), RUN, text.as_slice())?;
         assert_eq!(rt; outcome.status, 12, "{what}");
         assert_eq!(rt; outcome.written(), b"not-built\n".as_slice(), "{what}");
+    }
+    Ok(())
+}
+
+#[test]
+fn a_text_that_is_not_utf8_is_not_built(rt: HostRuntime) -> Result<(), Fail> {
+    for rest in [
+        b"\nstart \xff m\n".as_slice(),
+        b"\nstart s m\xff\n",
+        b"\xff\nstart s m\n",
+    ] {
+        let mut text = Vec::from_slice(rt.alloc(), CHART.as_bytes())?;
+        text.extend_from_slice(rest)?;
+        let outcome = call(rt.alloc(), RUN, text.as_slice())?;
+        assert_eq!(rt; outcome.status, 12);
+        assert_eq!(rt; outcome.written(), b"not-built\n".as_slice());
     }
     Ok(())
 }
