@@ -30,10 +30,12 @@ fn a_sequence_is_a_list(rt: HostRuntime) -> Result<(), Fail> {
     Ok(())
 }
 
-fn event(alloc: Global) -> Result<Event, Unfit> {
+fn event(alloc: Global, note: &str) -> Result<Event, Unfit> {
     let mut pairs = Sequence::new(alloc);
-    let value = Value::Text(bytes(alloc, "it's\n")?);
-    pairs.push((PlainName::of(alloc, b"note")?, value))?;
+    pairs.push((
+        PlainName::of(alloc, b"note")?,
+        Value::Text(bytes(alloc, note)?),
+    ))?;
     Ok(Event {
         number: 9,
         name: Name::of(alloc, b"door.open")?,
@@ -46,28 +48,16 @@ fn event(alloc: Global) -> Result<Event, Unfit> {
     })
 }
 
-#[test]
-fn a_copied_event_is_the_same_until_it_is_changed(rt: HostRuntime) -> Result<(), Fail> {
-    let event = event(rt.alloc())?;
-    let mut copy = event.copy(rt.alloc())?;
-    assert!(rt; copy.same(&event));
-    assert_eq!(rt; copy.name.bytes(), b"door.open".as_slice());
-    copy.payload = Data::Absent;
-    assert!(rt; !copy.same(&event));
-    Ok(())
-}
-
-fn chart(alloc: Global) -> Result<Chart, NoMemory> {
+fn chart(alloc: Global, text: &str) -> Result<Chart, NoMemory> {
     let mut members = Sequence::new(alloc);
-    let text = Member::Code(Expr::Text(bytes(alloc, "hi")?));
-    members.push((bytes(alloc, "expr")?, text))?;
-    let log = Node {
+    let code = Member::Code(Expr::Text(bytes(alloc, text)?));
+    members.push((bytes(alloc, "expr")?, code))?;
+    let mut kids = Sequence::new(alloc);
+    kids.push(Node {
         tag: Tag::Log,
         members,
         kids: Sequence::new(alloc),
-    };
-    let mut kids = Sequence::new(alloc);
-    kids.push(log)?;
+    })?;
     Ok(Chart {
         root: Node {
             tag: Tag::Scxml,
@@ -77,21 +67,11 @@ fn chart(alloc: Global) -> Result<Chart, NoMemory> {
     })
 }
 
-#[test]
-fn a_copied_chart_is_the_same_until_it_is_changed(rt: HostRuntime) -> Result<(), Fail> {
-    let chart = chart(rt.alloc())?;
-    let mut copy = chart.copy(rt.alloc())?;
-    assert!(rt; copy.same(&chart));
-    copy.root.kids = Sequence::new(rt.alloc());
-    assert!(rt; !copy.same(&chart));
-    Ok(())
-}
-
-fn entry(alloc: Global) -> Result<Entry, Unfit> {
+fn entry(alloc: Global, text: &str) -> Result<Entry, Unfit> {
     let mut logs = Sequence::new(alloc);
     logs.push(LogLine {
         label: Sequence::new(alloc),
-        value: Value::Text(bytes(alloc, "hi")?),
+        value: Value::Text(bytes(alloc, text)?),
     })?;
     Ok(Entry {
         who: Who::Client(0),
@@ -106,12 +86,17 @@ fn entry(alloc: Global) -> Result<Entry, Unfit> {
     })
 }
 
+/// Whether a copy is the same as what it copies, and no other value is.
+fn is_told_apart<T: Plain>(alloc: Global, value: &T, other: &T) -> Result<bool, NoMemory> {
+    let copy = value.copy(alloc)?;
+    Ok(copy.same(value) && !copy.same(other))
+}
+
 #[test]
-fn a_copied_entry_is_the_same_until_it_is_changed(rt: HostRuntime) -> Result<(), Fail> {
-    let entry = entry(rt.alloc())?;
-    let mut copy = entry.copy(rt.alloc())?;
-    assert!(rt; copy.same(&entry));
-    copy.who = Who::Worker;
-    assert!(rt; !copy.same(&entry));
+fn a_copy_is_the_same_as_what_it_copies(rt: HostRuntime) -> Result<(), Fail> {
+    let alloc = rt.alloc();
+    assert!(rt; is_told_apart(alloc, &event(alloc, "a")?, &event(alloc, "b")?)?);
+    assert!(rt; is_told_apart(alloc, &chart(alloc, "a")?, &chart(alloc, "b")?)?);
+    assert!(rt; is_told_apart(alloc, &entry(alloc, "a")?, &entry(alloc, "b")?)?);
     Ok(())
 }
