@@ -1,6 +1,5 @@
-ghost use Rattle.std.specs.Prelude.{◌≡◌, IfOk, OnOk, codes, option_and_then};
-ghost use Rattle.std.specs.Option.{option_copied, option_map_or};
-ghost use Rattle.sc_law.specs.Tree.{member, plain_text, code_of};
+ghost use Rattle.std.specs.Prelude.{◌≡◌, IfOk, OnOk};
+ghost use Rattle.sc_law.specs.Tree.{member};
 ghost use Rattle.sc_types.specs.declared.chart.Node.{out-Node};
 ghost use Rattle.sc_law.specs.Content.{value_of, log_line, run_element, run_block};
 

@@ -1,4 +1,4 @@
-ghost use Rattle.std.specs.Prelude.{◌≡◌, ◌++◌, IfOk, OnOk, [], filter};
+ghost use Rattle.std.specs.Prelude.{◌≡◌, IfOk, OnOk, [], filter};
 ghost use Rattle.sc_law.specs.Tree.{is_below};
 
 use crate::sets::{domain, put, put_all, targets};
@@ -16,7 +16,7 @@ pub struct EntryTriple {
 }
 
 impl EntryTriple {
-    ghost use Rattle.sc_law.specs.Entry.{no_entry, down, down_all, up, up_all, enter_targets, entry_of, entry_from, entry, root_default, first_entry};
+    ghost use Rattle.sc_law.specs.Entry.{no_entry, down, down_all, up, up_all, enter_targets, entry_of, entry, first_entry};
 
     fn new(alloc: Global) -> EntryTriple
         ensures { result ≡ no_entry }

@@ -1,7 +1,6 @@
 ghost use Rattle.std.specs.Prelude.{◌≡◌, if◌then◌else◌, IfOk, OnOk, Some, None, is_some};
 ghost use Rattle.std.specs.Bool.{OnFalse};
 ghost use Rattle.sc_law.specs.Microstep.{enter};
-ghost use Rattle.sc_law.specs.Entry.{first_entry};
 ghost use Rattle.sc_law.specs.Turn.{take_event, next_round, start_invokes, settle, begin, after, finish, turn};
 
 use crate::entry::EntryTriple;

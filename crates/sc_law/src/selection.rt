@@ -1,10 +1,10 @@
-ghost use Rattle.std.specs.Prelude.{◌≡◌, ◌==◌, ◌++◌, ◌&&◌, not, IfOk, OnOk, List, [], ◌∷◌, filter, find};
+ghost use Rattle.std.specs.Prelude.{◌≡◌, ◌==◌, ◌++◌, ◌&&◌, not, IfOk, OnOk, [], ◌∷◌, filter, find};
 ghost use Rattle.std.specs.List.{list_any, flat_map};
 ghost use Rattle.std.specs.Option.{option_copied};
 ghost use Rattle.sc_types.specs.Descriptors.{any_matches};
 ghost use Rattle.sc_law.specs.Tree.{is_atomic, ancestors};
 ghost use Rattle.sc_law.specs.Sets.{leaves};
-ghost use Rattle.sc_law.specs.Selection.{is_transition, transitions_among, transitions_of, matches_event, is_enabled, first_enabled, is_same, choose, chosen, conflicts, gives_way, keep, kept_from, select};
+ghost use Rattle.sc_law.specs.Selection.{is_transition, transitions_of, matches_event, is_enabled, first_enabled, is_same, choose, chosen, conflicts, gives_way, keep, kept_from, select};
 
 use crate::run_state::RunState;
 use crate::sets::{leaves, transition_node};

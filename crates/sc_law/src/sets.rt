@@ -1,8 +1,8 @@
-ghost use Rattle.std.specs.Prelude.{◌≡◌, ◌==◌, ◌++◌, not, ℕ, nat_lt, IfOk, OnOk, Option, unwrap_or, List, [], filter, find, codes};
-ghost use Rattle.std.specs.List.{list_any, list_all, filter_map};
+ghost use Rattle.std.specs.Prelude.{◌≡◌, ◌==◌, ◌++◌, not, nat_lt, IfOk, OnOk, Option, [], filter, find};
+ghost use Rattle.std.specs.List.{list_any, filter_map};
 ghost use Rattle.std.specs.Option.{option_copied, option_map_or};
 ghost use Rattle.sc_law.specs.Tree.{state_named, words_of, member};
-ghost use Rattle.sc_law.specs.Sets.{put, put_all, contains, without, transition_node, targets, is_above_all, nearest_above, domain_over, domain, leaves, exit_set};
+ghost use Rattle.sc_law.specs.Sets.{put, put_all, contains, without, transition_node, targets, is_above_all, nearest_above, domain, leaves, exit_set};
 
 use crate::tree::{Transition, Tree, member, state_number};
 use sc_types::{Bytes, Member, NoMemory, Node, Sequence};

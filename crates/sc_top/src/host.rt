@@ -1,7 +1,6 @@
-ghost use Rattle.std.specs.Prelude.{◌≡◌, ◌+◌, ◌^◌, ◌<◌, ◌++◌, [], ◌∷◌, ℕ, List, Some, option_map, is_some, find, unwrap_or, slice_get, IfSome, IfOk, OnOk, length};
-ghost use Rattle.std.specs.List.{list_any};
+ghost use Rattle.std.specs.Prelude.{◌≡◌, ◌+◌, ◌^◌, ◌<◌, [], Some, option_map, is_some, find, unwrap_or, slice_get, IfSome, IfOk, OnOk, length};
 ghost use Rattle.std.specs.Option.{option_copied};
-ghost use Rattle.sc_law.specs.Host.{empty_host, is_too_long, has_chart, chart_place, chart_named, bare_chart, session_place, session_named, not_read, fresh_state, fresh_session, has_slash, pairs_data, posted_event, waiting_cue, cue_of, name_of, queue_left, queue_of_phase, ready};
+ghost use Rattle.sc_law.specs.Host.{empty_host, has_chart, chart_place, chart_named, bare_chart, session_place, session_named, not_read, fresh_state, fresh_session, has_slash, pairs_data, posted_event, waiting_cue, cue_of, name_of, queue_left, queue_of_phase, ready};
 ghost use Rattle.sc_law.specs.Turn.{turn};
 
 use crate::chart_reader::read_flat_chart;

@@ -1,11 +1,7 @@
-ghost use Rattle.std.specs.Prelude.{◌≡◌, ◌≢◌, ◌≤◌, ◌↔◌, ℕ, map, string_bytes, IfOk, IfSome, IsTrue, List, codes, length};
+ghost use Rattle.std.specs.Prelude.{◌≡◌, ◌≢◌, ◌↔◌, ℕ, map, string_bytes, IfOk, IfSome, IsTrue, List};
 ghost use Rattle.std.specs.Io.KnownBytes.{Appends, Keeps};
 ghost use Rattle.sc_types.specs.declared.command.Command.{Command};
-ghost use Rattle.sc_types.specs.declared.history.Entry.{Entry};
-ghost use Rattle.sc_law.specs.Host.{empty_host};
-ghost use Rattle.sc_law.specs.History.{replay};
 ghost use Rattle.sc_law.specs.Report.{report};
-ghost use Rattle.sc_law.specs.Run.{IsHistoryOf};
 ghost use Rattle.sc_dev.specs.Causes.{Rose};
 ghost use Rattle.sc_dev.specs.Transfer.{AppendsPart, ConsumesUpTo};
 ghost use Rattle.sc_top.specs.FirstForm.{IsFirstForm};

@@ -1,6 +1,5 @@
-ghost use Rattle.std.specs.Prelude.{◌≡◌, ◌≢◌, ◌==◌, ◌++◌, [], ◌∷◌, ℕ, List, IfOk, MatchOption, IsTrue, IsSome, ◌↔◌, ◌-◌, length, map, slice_index};
+ghost use Rattle.std.specs.Prelude.{◌≡◌, ◌≢◌, ◌==◌, ◌++◌, [], ◌∷◌, ℕ, List, IfOk, MatchOption, IsTrue, ◌↔◌, ◌-◌, map};
 ghost use Rattle.std.specs.List.{position};
-ghost use Rattle.sc_types.specs.FlatChart.{flat_chart_of};
 ghost use Rattle.sc_types.specs.Text.{IsWord};
 ghost use Rattle.sc_types.specs.declared.command.Command.{Command};
 ghost use Rattle.sc_top.specs.FirstForm.{lacks, IsShortName, IsChartText, post_of, IsFirstForm};
