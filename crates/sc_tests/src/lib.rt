@@ -3,8 +3,6 @@
 #![tactic(auto)]
 
 #[cfg(test)]
-mod descriptors;
-#[cfg(test)]
 mod devices;
 #[cfg(test)]
 mod faults;
