@@ -1,11 +1,11 @@
 use sc_types::{LogLine, Sequence, SessionState};
 
 /// What a turn asks the host to do. No element of this version asks for anything.
-#[derive(Debug, Drop)]
+#[derive(Drop)]
 pub enum Effect {}
 
 /// A session in the middle of a turn.
-#[derive(Debug, Drop)]
+#[derive(Drop)]
 pub struct RunState {
     pub state: SessionState,
     /// The states that were entered, and whose invokes are still to be started; ascending.
@@ -17,7 +17,7 @@ pub struct RunState {
 }
 
 /// What a turn gives: the session after it, what the host is to do, and what was logged.
-#[derive(Debug, Drop)]
+#[derive(Drop)]
 pub struct TurnResult {
     pub after: SessionState,
     pub effects: Sequence<Effect>,

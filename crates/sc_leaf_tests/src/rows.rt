@@ -39,3 +39,21 @@ fn rows_are_joined_met_and_parted(rt: HostRuntime) -> Result<(), Fail> {
     assert_eq!(rt; a.next(0), None);
     Ok(())
 }
+
+#[test]
+fn the_active_states_below_a_domain_are_exited(rt: HostRuntime) -> Result<(), Fail> {
+    let mut active = Row::new(rt.alloc(), 7)?;
+    active.add(0);
+    active.add(1);
+    active.add(2);
+    active.add(3);
+    active.add(4);
+    let mut exited = Row::new(rt.alloc(), 7)?;
+    assert_eq!(rt; exited.next(0), None);
+    exited.add(4);
+    exited.add(5);
+    exited.meet(&active);
+    assert_eq!(rt; exited.next(0), Some(4));
+    assert_eq!(rt; exited.next(5), None);
+    Ok(())
+}
