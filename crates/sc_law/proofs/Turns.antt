@@ -28,10 +28,7 @@ IsOf r next = next.state.session ≡ r.state.session
 
 element_keeps : (t : Tag) (n : Node) (r : RunState) → IsOf r (run_element t n r)
 element_keeps tag.Log n r = refl
-element_keeps tag.Scxml n r = refl
-element_keeps tag.State n r = refl
-element_keeps tag.Transition n r = refl
-element_keeps tag.OnEntry n r = refl
+element_keeps t n r = refl
 
 block_keeps : (ns : List Node) (r : RunState) → IsOf r (run_block ns r)
 block_keeps [] r = refl

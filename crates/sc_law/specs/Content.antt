@@ -1,20 +1,24 @@
 -- Executable content (SCXML 4): what a block of elements does to a run.
 use Rattle.std.specs.Prelude.{option_and_then, unwrap_or, List, [], ◌∷◌, ◌++◌, codes}
 use Rattle.std.specs.Option.{option_map_or}
-use Rattle.sc_types.specs.declared.chart.Expr.{Expr}
-use Rattle.sc_types.specs.declared.chart.Expr.TheVariants.{Text}
+use Rattle.sc_types.specs.declared.expr.Expr.{Expr, out-Expr}
+use Rattle.sc_types.specs.declared.expr.Expr.TheOpen.{Expr-F}
 use Rattle.sc_types.specs.declared.chart.Node.{Node, out-Node}
 use Rattle.sc_types.specs.declared.chart.Tag.{Tag}
-use Rattle.sc_types.specs.declared.chart.Tag.TheVariants.{Scxml, State, Transition, OnEntry, Log}
+use Rattle.sc_types.specs.declared.chart.Tag.TheVariants.{Log}
 use Rattle.sc_types.specs.declared.history.LogLine.{LogLine}
 use Rattle.sc_types.specs.declared.value.Value.{Value}
 use Rattle.sc_types.specs.declared.value.Value.TheVariants as value
 use Rattle.sc_law.specs.declared.run_state.RunState.{RunState}
 use Rattle.sc_law.specs.Tree.{member, plain_text, code_of}
 
--- the value of an expression
+-- the value of a text literal; the charts of this version have no other expressions
+abbrev pub literal_of : Expr-F Expr → Value
+literal_of (Expr-F.Text text) = value.Text text
+literal_of e = value.Text []
+
 abbrev pub value_of : Expr → Value
-value_of (Text text) = value.Text text
+value_of e = literal_of (out-Expr e)
 
 -- 4.7: an absent label or `expr` is the empty text (this host's own rule)
 abbrev pub log_line : Node → LogLine
@@ -25,10 +29,7 @@ log_line n = record {
 
 abbrev pub run_element : Tag → Node → RunState → RunState
 run_element Log n r = record r { logs = r.logs ++ log_line n ∷ [] }
-run_element Scxml n r = r
-run_element State n r = r
-run_element Transition n r = r
-run_element OnEntry n r = r
+run_element tag n r = r
 
 -- a block: its elements in order
 abbrev pub run_block : List Node → RunState → RunState

@@ -1,18 +1,10 @@
 -- The lines of scripts and reports that name a command. This host's own rule.
-use Rattle.std.specs.Prelude.{ℕ, ◌==◌, if◌then◌else◌, List, [], ◌∷◌, ◌++◌, codes}
+use Rattle.std.specs.Prelude.{ℕ, List, [], ◌∷◌, ◌++◌, codes}
 use Rattle.std.specs.List.{flat_map}
 use Rattle.sc_types.specs.declared.command.Command.{Command}
 use Rattle.sc_types.specs.declared.command.Command.TheVariants.{Install, Start, Post, Step}
+use Rattle.sc_types.specs.Values.{value_text}
 use Rattle.sc_types.specs.declared.value.Value.{Value}
-use Rattle.sc_types.specs.declared.value.Value.TheVariants.{Text}
-
--- a byte of a text value: `\`, `'`, line feed and tab are escaped
-abbrev pub escaped : ℕ → List ℕ
-escaped b = if b == 92 then codes "\\\\" else (if b == 39 then codes "\\'" else (if b == 10 then codes "\\n" else (if b == 9 then codes "\\t" else b ∷ [])))
-
--- a value as a literal
-abbrev pub value_text : Value → List ℕ
-value_text (Text text) = codes "'" ++ flat_map escaped text ++ codes "'"
 
 abbrev pub pair_text : List ℕ × Value → List ℕ
 pair_text p = codes " " ++ p.0 ++ codes "=" ++ value_text p.1

@@ -4,7 +4,7 @@ use Rattle.std.specs.Option.{option_map_or}
 use Rattle.sc_types.specs.declared.chart.Chart.{Chart}
 use Rattle.sc_types.specs.declared.chart.Node.{Node, out-Node}
 use Rattle.sc_types.specs.declared.chart.Tag.{Tag}
-use Rattle.sc_types.specs.declared.chart.Tag.TheVariants.{Scxml, State, Transition, OnEntry, Log}
+use Rattle.sc_types.specs.declared.chart.Tag.TheVariants.{OnEntry}
 use Rattle.sc_law.specs.declared.entry.EntryTriple.{EntryTriple}
 use Rattle.sc_law.specs.declared.run_state.RunState.{RunState}
 use Rattle.sc_law.specs.declared.tree.Transition as row
@@ -22,10 +22,7 @@ exit_states gone r = record r {
 
 abbrev pub is_onentry : Tag → Bool
 is_onentry OnEntry = true
-is_onentry Scxml = false
-is_onentry State = false
-is_onentry Transition = false
-is_onentry Log = false
+is_onentry tag = false
 
 -- each `<onentry>` is a block of its own
 abbrev pub run_blocks : List Node → RunState → RunState

@@ -23,9 +23,9 @@ use Rattle.sc_types.specs.declared.session.How.TheVariants.{Final, Cancelled, Ru
 use Rattle.sc_types.specs.declared.session.Phase.{Phase}
 use Rattle.sc_types.specs.declared.session.Phase.TheVariants as phase
 use Rattle.sc_types.specs.declared.value.Value.{Value}
-use Rattle.sc_types.specs.declared.value.Value.TheVariants.{Text}
+use Rattle.sc_types.specs.Values.{text_literal, value_text}
 use Rattle.sc_law.specs.Host.{chart_named}
-use Rattle.sc_law.specs.Lines.{value_text, command_text, line}
+use Rattle.sc_law.specs.Lines.{command_text, line}
 use Rattle.sc_law.specs.Tree.{node_of, id_of}
 
 abbrev pub who_text : Who → List ℕ
@@ -73,7 +73,7 @@ reply_text (Stepped cue) = codes "stepped " ++ cue_text cue
 reply_text (Refused why) = codes "refused " ++ refusal_text why
 
 abbrev pub log_text : LogLine → List ℕ
-log_text l = line (codes "> " ++ value_text (Text l.label) ++ codes " " ++ value_text l.value)
+log_text l = line (codes "> " ++ text_literal l.label ++ codes " " ++ value_text l.value)
 
 abbrev pub delivery_text : Delivery → List ℕ
 delivery_text (Queued n session) = line (codes "* queued " ++ decimal n ++ codes " " ++ session)

@@ -7,7 +7,7 @@ use Rattle.sc_types.specs.Descriptors.{any_matches}
 use Rattle.sc_types.specs.declared.chart.Chart.{Chart}
 use Rattle.sc_types.specs.declared.chart.Node.{Node, out-Node}
 use Rattle.sc_types.specs.declared.chart.Tag.{Tag}
-use Rattle.sc_types.specs.declared.chart.Tag.TheVariants.{Scxml, State, Transition, OnEntry, Log}
+use Rattle.sc_types.specs.declared.chart.Tag.TheVariants.{Transition}
 use Rattle.sc_law.specs.declared.run_state.RunState.{RunState}
 use Rattle.sc_law.specs.declared.tree.Transition as row
 use Rattle.sc_law.specs.Tree.{kids_of, is_below, ancestors, is_atomic, member, words_of}
@@ -15,10 +15,7 @@ use Rattle.sc_law.specs.Sets.{Histories, transition_node, leaves}
 
 abbrev pub is_transition : Tag → Bool
 is_transition Transition = true
-is_transition Scxml = false
-is_transition State = false
-is_transition OnEntry = false
-is_transition Log = false
+is_transition tag = false
 
 -- the transitions among a state's child elements from a place on
 abbrev pub transitions_among : ℕ → ℕ → List Node → List row.Transition

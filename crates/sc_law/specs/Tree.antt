@@ -7,12 +7,12 @@ use Rattle.std.specs.Str.{bytes_eq}
 use Rattle.sc_types.specs.declared.chart.Chart.{Chart}
 use Rattle.sc_types.specs.declared.chart.Member.{Member}
 use Rattle.sc_types.specs.declared.chart.Member.TheVariants.{Plain, Items, Code}
-use Rattle.sc_types.specs.declared.chart.Expr.{Expr}
+use Rattle.sc_types.specs.declared.expr.Expr.{Expr}
 use Rattle.sc_types.specs.declared.chart.Node.{Node, out-Node}
 use Rattle.sc_types.specs.declared.chart.Node.TheOpen.{Node-F}
 use Rattle.sc_types.specs.declared.chart.Node.TheFolds.{fold-Node}
 use Rattle.sc_types.specs.declared.chart.Tag.{Tag}
-use Rattle.sc_types.specs.declared.chart.Tag.TheVariants.{Scxml, State, Transition, OnEntry, Log}
+use Rattle.sc_types.specs.declared.chart.Tag.TheVariants.{State}
 
 -- the places among child elements that lead from the root to an element
 abbrev pub Path : Type 0
@@ -21,10 +21,7 @@ Path = List ℕ
 -- a state's own path, and nothing of another element
 abbrev pub own_path : Tag → Path → List Path
 own_path State path = path ∷ []
-own_path Scxml path = []
-own_path Transition path = []
-own_path OnEntry path = []
-own_path Log path = []
+own_path tag path = []
 
 abbrev pub kids : Node → List Node
 kids n = (out-Node n).kids

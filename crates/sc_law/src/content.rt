@@ -8,11 +8,13 @@ use crate::tree::member;
 use sc_types::{Bytes, Expr, LogLine, Member, NoMemory, Node, Plain, Sequence, Tag, Value};
 use std::alloc::Global;
 
+/// The value of a text literal; the charts of this version have no other expressions.
 fn value_of(alloc: Global, code: &Expr) -> Result<Value, NoMemory>
     ensures { IfOk result (λ v. v ≡ value_of code.now) }
 {
     match code {
         Expr::Text(text) => Ok(Value::Text(text.copy(alloc)?)),
+        _ => Ok(Value::Text(Sequence::new(alloc))),
     }
 }
 

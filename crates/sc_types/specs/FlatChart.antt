@@ -11,7 +11,7 @@ use Rattle.serde_json.specs.Find.{get, as_str, as_array, as_object}
 use Rattle.serde_json.specs.Read.{read}
 use Rattle.sc_types.specs.Text.{is_plain_name}
 use Rattle.sc_types.specs.declared.chart.Chart.{Chart}
-use Rattle.sc_types.specs.declared.chart.Expr.TheVariants.{Text}
+use Rattle.sc_types.specs.declared.expr.Expr.TheVariants.{Text}
 use Rattle.sc_types.specs.declared.chart.Member.{Member}
 use Rattle.sc_types.specs.declared.chart.Member.TheVariants as member
 use Rattle.sc_types.specs.declared.chart.Node.{Node, roll-Node}

@@ -1,7 +1,7 @@
--- The forms of names. This host's own rule; SCXML leaves them to the data model.
-use Rattle.std.specs.Prelude.{ℕ, ◌<◌, ◌≤◌, ◌==◌, Bool, false, not, ◌&&◌, ◌||◌, nat_lt, nat_le, List, [], ◌∷◌, length, IsTrue, codes}
+-- The forms of names, texts and numbers. This host's own rule; SCXML leaves them to the data model.
+use Rattle.std.specs.Prelude.{ℕ, ℤ, pos, negsuc, ◌^◌, ◌<◌, ◌≤◌, ◌==◌, Bool, false, not, ◌&&◌, ◌||◌, nat_lt, nat_le, List, [], ◌∷◌, length, IsTrue, codes}
 use Rattle.std.specs.List.{list_all}
-use Rattle.std.specs.Str.{IsUtf8, bytes_eq}
+use Rattle.std.specs.Str.{IsUtf8, is_utf8, bytes_eq}
 
 -- above the space, and none of DEL " ' \
 abbrev pub is_name_byte : ℕ → Bool
@@ -41,3 +41,16 @@ pub record IsPlainName (text : List ℕ) : Type 0 where
 -- `IsPlainName` as a test
 abbrev pub is_plain_name : List ℕ → Bool
 is_plain_name text = nat_le (length text) 128 && starts_with_letter text && list_all (λ b. is_letter b || is_digit b) text && not (is_keyword text)
+
+-- line feed and tab are the control characters of a text
+abbrev pub is_text_byte : ℕ → Bool
+is_text_byte b = (nat_le 0x20 b || b == 10 || b == 9) && not (b == 0x7f)
+
+-- what a text of the data model may hold
+abbrev pub is_text : List ℕ → Bool
+is_text text = nat_le (length text) 4096 && is_utf8 text && list_all is_text_byte text
+
+-- what 64 bits hold
+abbrev pub is_int : ℤ → Bool
+is_int (pos n) = nat_lt n (2 ^ 63)
+is_int (negsuc n) = nat_lt n (2 ^ 63)

@@ -1,24 +1,39 @@
 ghost use Rattle.std.specs.Prelude.{◌≡◌, ◌↔◌, IsTrue, IfOk};
 
+use crate::expr::Expr;
 use crate::memory::NoMemory;
 use crate::plain::Plain;
 use crate::sequence::{Bytes, Sequence};
 use std::alloc::Global;
-
-/// An expression of the data model.
-#[derive(Debug, Drop)]
-pub enum Expr {
-    Text(Bytes),
-}
 
 /// The SCXML element that a node stands for.
 #[derive(Clone, Copy, Debug, PartialEq, Eq)]
 pub enum Tag {
     Scxml,
     State,
+    Parallel,
+    Final,
+    History,
+    Initial,
     Transition,
     OnEntry,
+    OnExit,
+    Finalize,
+    DataModel,
+    DataItem,
+    DoneData,
+    Content,
+    Param,
+    Invoke,
+    Raise,
+    If,
+    ElseIf,
+    Else,
+    ForEach,
     Log,
+    Assign,
+    Send,
+    Cancel,
 }
 
 /// The value of an attribute of an element.
@@ -26,7 +41,7 @@ pub enum Tag {
 pub enum Member {
     /// The text as given.
     Plain(Bytes),
-    /// The words of `event` and `target` of a transition.
+    /// The words of `initial`, of `event` and `target` of a transition, and of `namelist`.
     Items(Sequence<Bytes>),
     /// An attribute that is an expression.
     Code(Expr),
@@ -55,17 +70,21 @@ pub struct ChartFault {
     pub member: Bytes,
 }
 
-impl Plain for Expr {
-    fn copy(&self, alloc: Global) -> Result<Expr, NoMemory> {
-        match self {
-            Expr::Text(text) => Ok(Expr::Text(text.copy(alloc)?)),
-        }
-    }
+/// Why a chart is refused: its first fault, or memory was wanting.
+#[derive(Debug, Drop)]
+pub enum ChartRefusal {
+    Fault(ChartFault),
+    NoMemory,
+}
 
-    fn same(&self, other: &Expr) -> bool {
-        match (self, other) {
-            (Expr::Text(a), Expr::Text(b)) => a.same(b),
-        }
+impl From<NoMemory> for ChartRefusal {
+    ghost use Rattle.std.specs.Prelude.{◌≡◌};
+    ghost use Rattle.sc_types.specs.declared.chart.ChartRefusal.TheVariants.{NoMemory};
+
+    ghost from_gives = { λ _ e. e ≡ NoMemory };
+
+    fn from(_error: NoMemory) -> ChartRefusal {
+        ChartRefusal::NoMemory
     }
 }
 

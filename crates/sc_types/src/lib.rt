@@ -4,9 +4,11 @@
 //! these types equals what it copies.
 #![tactic(auto)]
 
+mod boxed;
 mod chart;
 mod command;
 mod event;
+mod expr;
 mod history;
 mod host;
 mod memory;
@@ -14,16 +16,20 @@ mod plain;
 mod sequence;
 mod session;
 mod text;
+mod token;
 mod value;
 
-pub use chart::{Chart, ChartFault, Expr, Member, Node, Tag};
+pub use boxed::Boxed;
+pub use chart::{Chart, ChartFault, ChartRefusal, Member, Node, Tag};
 pub use command::{Command, Refusal, Reply};
 pub use event::{Data, Event, Kind};
+pub use expr::{EventField, Expr, Op};
 pub use history::{Delivery, Entry, LogLine, Who};
 pub use host::{ChartImage, HostImage, InvokerImage, SessionImage, TimerImage, To};
 pub use memory::NoMemory;
 pub use plain::Plain;
 pub use sequence::{Bytes, Sequence};
 pub use session::{Cue, CueName, How, Invoked, Phase, SessionState};
-pub use text::{Name, PlainName, Unfit, Word, is_plain_name};
+pub use text::{Name, PlainName, Unfit, Word, is_plain_name, is_text};
+pub use token::{Mark, Token};
 pub use value::{PairList, Value};

@@ -1,6 +1,7 @@
 ghost use Rattle.std.specs.Prelude.{◌≡◌, ◌↔◌, ◌==◌, ◌||◌, not, IsTrue, IfOk};
 ghost use Rattle.std.specs.List.{list_all};
-ghost use Rattle.sc_types.specs.Text.{is_name_byte, is_letter, is_digit, is_keyword, starts_with_letter, is_plain_name, IsName, IsWord, IsPlainName};
+ghost use Rattle.std.specs.Str.{is_utf8};
+ghost use Rattle.sc_types.specs.Text.{is_name_byte, is_letter, is_digit, is_keyword, starts_with_letter, is_plain_name, is_text_byte, is_text, IsName, IsWord, IsPlainName};
 
 use crate::memory::NoMemory;
 use crate::plain::Plain;
@@ -153,6 +154,34 @@ pub fn is_plain_name(text: &[u8]) -> bool
         return false;
     }
     !is_keyword(text)
+}
+
+fn is_text_byte(byte: u8) -> bool
+    ensures { result ≡ is_text_byte byte }
+{
+    (byte >= 0x20 || byte == b'\n' || byte == b'\t') && byte != 0x7f
+}
+
+fn is_utf8(text: &[u8]) -> bool
+    ensures { result ≡ is_utf8 text.now }
+{
+    match std::str::from_utf8(text) {
+        Ok(_) => true,
+        Err(_) => false,
+    }
+}
+
+fn has_text_bytes(text: &[u8]) -> bool
+    ensures { result ≡ list_all is_text_byte text.now }
+{
+    text.iter().all(|b| is_text_byte(*b))
+}
+
+/// Whether these bytes are what a text of the data model may hold.
+pub fn is_text(text: &[u8]) -> bool
+    ensures { result ≡ is_text text.now }
+{
+    text.len() <= 4096 && is_utf8(text) && has_text_bytes(text)
 }
 
 impl Name {

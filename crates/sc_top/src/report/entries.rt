@@ -3,26 +3,27 @@ ghost use Rattle.std.specs.List.{flat_map};
 ghost use Rattle.sc_law.specs.Lines.{line, command_text};
 ghost use Rattle.sc_law.specs.Report.{who_text, reply_text, log_text, delivery_text, entry_text, entries_text};
 
-use crate::report::lines::{end_line, put, put_command, put_number, put_text, put_value};
+use crate::report::lines::{end_line, put, put_command, put_number};
 use crate::report::replies::{put_reply, put_who};
+use sc_expr::{put_text, put_value};
 use sc_types::{Command, Delivery, Entry, LogLine, NoMemory, Reply, Who};
 use std::alloc::Global;
 
-fn put_log(out: &mut Vec<u8>, log: &LogLine) -> Result<(), NoMemory>
+fn put_log(alloc: Global, out: &mut Vec<u8>, log: &LogLine) -> Result<(), NoMemory>
     ensures { OnOk result (out.new.items ≡ out.old.items ++ log_text log.now) }
 {
     put(out, b"> ")?;
     put_text(out, log.label.slice())?;
     put(out, b" ")?;
-    put_value(out, &log.value)?;
+    put_value(alloc, out, &log.value)?;
     end_line(out)
 }
 
-fn put_logs(out: &mut Vec<u8>, logs: &[LogLine]) -> Result<(), NoMemory>
+fn put_logs(alloc: Global, out: &mut Vec<u8>, logs: &[LogLine]) -> Result<(), NoMemory>
     ensures { OnOk result (out.new.items ≡ out.old.items ++ flat_map log_text logs.now) }
 {
     for log in logs {
-        put_log(out, log)?;
+        put_log(alloc, out, log)?;
     }
     Ok(())
 }
@@ -64,7 +65,7 @@ fn put_command_line(
     put(out, b" ")?;
     put_who(alloc, out, who)?;
     put(out, b" ")?;
-    put_command(out, command)?;
+    put_command(alloc, out, command)?;
     end_line(out)
 }
 
@@ -81,7 +82,7 @@ fn put_entry(alloc: Global, out: &mut Vec<u8>, number: usize, entry: &Entry) -> 
 {
     put_command_line(alloc, out, number, entry.who, &entry.command)?;
     put_reply_line(alloc, out, &entry.reply)?;
-    put_logs(out, entry.logs.slice())?;
+    put_logs(alloc, out, entry.logs.slice())?;
     put_deliveries(alloc, out, entry.sent.slice())
 }
 

@@ -1,7 +1,8 @@
 ghost use Rattle.std.specs.Prelude.{◌≡◌, ◌++◌, [], ◌∷◌, OnOk, decimal};
 ghost use Rattle.std.specs.List.{flat_map};
-ghost use Rattle.sc_law.specs.Lines.{line, escaped, value_text, pair_text, command_text};
+ghost use Rattle.sc_law.specs.Lines.{line, pair_text, command_text};
 
+use sc_expr::put_value;
 use sc_types::{Command, NoMemory, PlainName, Value};
 use std::alloc::Global;
 
@@ -38,50 +39,28 @@ pub(crate) fn put_counted(
     end_line(out)
 }
 
-fn put_escaped(out: &mut Vec<u8>, byte: u8) -> Result<(), NoMemory>
-    ensures { OnOk result (out.new.items ≡ out.old.items ++ escaped byte) }
-{
-    match byte {
-        b'\\' => put(out, b"\\\\"),
-        b'\'' => put(out, b"\\'"),
-        b'\n' => put(out, b"\\n"),
-        b'\t' => put(out, b"\\t"),
-        _ => put(out, &[byte]),
-    }
-}
-
-pub(crate) fn put_text(out: &mut Vec<u8>, text: &[u8]) -> Result<(), NoMemory>
-    ensures { OnOk result (out.new.items ≡ out.old.items ++ value_text (Value.Text text.now)) }
-{
-    put(out, b"'")?;
-    for byte in text {
-        put_escaped(out, *byte)?;
-    }
-    put(out, b"'")
-}
-
-pub(crate) fn put_value(out: &mut Vec<u8>, value: &Value) -> Result<(), NoMemory>
-    ensures { OnOk result (out.new.items ≡ out.old.items ++ value_text value.now) }
-{
-    match value {
-        Value::Text(text) => put_text(out, text.slice()),
-    }
-}
-
-fn put_pair(out: &mut Vec<u8>, pair: &(PlainName, Value)) -> Result<(), NoMemory>
+fn put_pair(
+    alloc: Global,
+    out: &mut Vec<u8>,
+    pair: &(PlainName, Value),
+) -> Result<(), NoMemory>
     ensures { OnOk result (out.new.items ≡ out.old.items ++ pair_text pair.now) }
 {
     put(out, b" ")?;
     put(out, pair.0.bytes())?;
     put(out, b"=")?;
-    put_value(out, &pair.1)
+    put_value(alloc, out, &pair.1)
 }
 
-fn put_pairs(out: &mut Vec<u8>, pairs: &[(PlainName, Value)]) -> Result<(), NoMemory>
+fn put_pairs(
+    alloc: Global,
+    out: &mut Vec<u8>,
+    pairs: &[(PlainName, Value)],
+) -> Result<(), NoMemory>
     ensures { OnOk result (out.new.items ≡ out.old.items ++ flat_map pair_text pairs.now) }
 {
     for pair in pairs {
-        put_pair(out, pair)?;
+        put_pair(alloc, out, pair)?;
     }
     Ok(())
 }
@@ -95,7 +74,11 @@ fn put_named(out: &mut Vec<u8>, word: &[u8], name: &[u8]) -> Result<(), NoMemory
     put(out, b" ")
 }
 
-pub(crate) fn put_command(out: &mut Vec<u8>, command: &Command) -> Result<(), NoMemory>
+pub(crate) fn put_command(
+    alloc: Global,
+    out: &mut Vec<u8>,
+    command: &Command,
+) -> Result<(), NoMemory>
     ensures { OnOk result (out.new.items ≡ out.old.items ++ command_text command.now) }
 {
     match command {
@@ -114,7 +97,7 @@ pub(crate) fn put_command(out: &mut Vec<u8>, command: &Command) -> Result<(), No
         } => {
             put_named(out, b"post ", session.bytes())?;
             put(out, event.bytes())?;
-            put_pairs(out, pairs.slice())
+            put_pairs(alloc, out, pairs.slice())
         }
         Command::Step { session } => {
             put(out, b"step ")?;

@@ -8,7 +8,8 @@ ghost use Rattle.sc_law.specs.Tree.{node_of, id_of};
 ghost use Rattle.sc_top.specs.Held.{IsHeld};
 
 use crate::host::Host;
-use crate::report::lines::{end_line, put, put_counted, put_number, put_value};
+use crate::report::lines::{end_line, put, put_counted, put_number};
+use sc_expr::put_value;
 use crate::report::replies::put_how;
 use sc_law::Tree;
 use sc_types::{NoMemory, Phase, PlainName, SessionImage, SessionState, Value};
@@ -53,23 +54,31 @@ fn put_ids(
     Ok(())
 }
 
-fn put_datum(out: &mut Vec<u8>, datum: &(PlainName, Option<Value>)) -> Result<(), NoMemory>
+fn put_datum(
+    alloc: Global,
+    out: &mut Vec<u8>,
+    datum: &(PlainName, Option<Value>),
+) -> Result<(), NoMemory>
     ensures { OnOk result (out.new.items ≡ out.old.items ++ datum_text datum.now) }
 {
     put(out, b". ")?;
     put(out, datum.0.bytes())?;
     if let Some(value) = &datum.1 {
         put(out, b"=")?;
-        put_value(out, value)?;
+        put_value(alloc, out, value)?;
     }
     end_line(out)
 }
 
-fn put_data(out: &mut Vec<u8>, values: &[(PlainName, Option<Value>)]) -> Result<(), NoMemory>
+fn put_data(
+    alloc: Global,
+    out: &mut Vec<u8>,
+    values: &[(PlainName, Option<Value>)],
+) -> Result<(), NoMemory>
     ensures { OnOk result (out.new.items ≡ out.old.items ++ flat_map datum_text values.now) }
 {
     for datum in values {
-        put_datum(out, datum)?;
+        put_datum(alloc, out, datum)?;
     }
     Ok(())
 }
@@ -112,7 +121,7 @@ fn put_live(
     ensures { OnOk result (out.new.items ≡ out.old.items ++ live_text host.now.image session.now) }
 {
     put_active(alloc, out, host, &session.state)?;
-    put_data(out, session.state.values.slice())?;
+    put_data(alloc, out, session.state.values.slice())?;
     put_counted(alloc, out, b"# ", session.queued.len() as u128)
 }
 

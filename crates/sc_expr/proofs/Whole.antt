@@ -1,0 +1,45 @@
+-- A text that is read to its end.
+use Rattle.std.proofs.Common.{◌≡◌, ℕ, false, Option, Some, None, List, [], ◌∷◌, option_and_then, refl, sym, ap, ◌∙◌}
+use Rattle.std.proofs.lemmas.Option.{none-some}
+use Rattle.sc_types.specs.Expressions.{IsExpr, IsExpression}
+use Rattle.sc_types.specs.Tokens.{tokens}
+use Rattle.sc_types.specs.declared.expr.Expr.{Expr}
+use Rattle.sc_types.specs.declared.token.Token.{Token}
+use Rattle.sc_expr.specs.Descent.{loose_at, whole, expression_of}
+use Rattle.sc_expr.proofs.Grammar.{reads_spelled, spelled_reads, one_tree}
+use Rattle.sc_expr.proofs.Limits.{within_limits}
+
+ends : (ts rest : List Token) (e : Expr) → loose_at 256 6 ts ≡ Some (e, rest) → rest ≡ [] → expression_of ts ≡ Some e
+ends ts rest e read end = ap (option_and_then whole) (read ∙ ap (λ us. Some (e, us)) end)
+
+pub whole_read : (text : List ℕ) (rest : List Token) (e : Expr) → loose_at 256 6 (tokens false text) ≡ Some (e, rest) → rest ≡ []
+    → IsExpression text e
+whole_read text rest e read end =
+    let known = reads_spelled (tokens false text) e (ends (tokens false text) rest e read end) in
+    record { spelled = known.0; shallow = known.1 }
+
+pub whole_within : (text : List ℕ) (rest : List Token) (e : Expr) → loose_at 256 6 (tokens false text) ≡ Some (e, rest) → rest ≡ [] → IsExpr e
+whole_within text rest e read end = within_limits text e (whole_read text rest e read end)
+
+pub whole_only : (text : List ℕ) (rest : List Token) (e : Expr) → loose_at 256 6 (tokens false text) ≡ Some (e, rest) → rest ≡ []
+    → (other : Expr) → IsExpression text other → other ≡ e
+whole_only text rest e read end other is =
+    let known = whole_read text rest e read end in
+    one_tree (tokens false text) other e is.spelled is.shallow known.spelled known.shallow
+
+-- nothing else than what was read is spelled
+refused : (text : List ℕ) (o : Option Expr) → expression_of (tokens false text) ≡ o → o ≡ None → (e : Expr) → ¬ IsExpression text e
+refused text o read none e is = none-some e (sym (read ∙ none) ∙ spelled_reads (tokens false text) e is.spelled is.shallow)
+
+pub whole_refused : (text : List ℕ) → loose_at 256 6 (tokens false text) ≡ None → (e : Expr) → ¬ IsExpression text e
+whole_refused text none e is = refused text _ (ap (option_and_then whole) none) refl e is
+
+more_behind : (e : Expr) (rest : List Token) → ¬ (rest ≡ []) → whole (e, rest) ≡ None
+more_behind e [] more = absurd (more refl)
+more_behind e (t ∷ rest) more = refl
+
+pub whole_unended : (text : List ℕ) (rest : List Token) (read : Expr) → loose_at 256 6 (tokens false text) ≡ Some (read, rest) → ¬ (rest ≡ [])
+    → (e : Expr) → ¬ IsExpression text e
+whole_unended text rest read got more e is = refused text _ (ap (option_and_then whole) got) (more_behind read rest more) e is
+
+pub ruleset wholes = (whole_read, whole_within, whole_only, whole_refused, whole_unended)

@@ -1,0 +1,478 @@
+ghost use Rattle.std.specs.Prelude.{◌≡◌, ◌≤◌, ◌==◌, true, false, codes, nat_lt, drop, length, [], ◌∷◌, ◌↔◌, IsTrue, IfOk, OnOk, MatchOption};
+ghost use Rattle.std.specs.Str.{bytes_eq};
+ghost use Rattle.sc_types.specs.Expressions.{IsExpr, IsExpression, depth, looseness, repeats};
+ghost use Rattle.sc_types.specs.Text.{IsPlainName};
+ghost use Rattle.sc_types.specs.Tokens.{tokens};
+ghost use Rattle.sc_types.specs.declared.token.Mark.TheVariants.{CloseSquare, Comma};
+ghost use Rattle.sc_types.specs.declared.token.Token.TheVariants.{Mark as Sign};
+ghost use Rattle.sc_expr.specs.Descent.{after_open, after_close, after_close_square, operator_at, prefix_at, is_at, is_unended, after_dot, state_id, word, field_of, loose_at, prefixed, postfix, inside, primary, named, bracketed, list_of, active, event_field, payload};
+
+use crate::fault::ExprFault;
+use crate::lexer::Lexer;
+use crate::sub::{Prefix, Sub};
+use sc_types::{Bytes, EventField, Expr, Mark, NoMemory, Op, PlainName, Sequence, Token, Unfit, is_plain_name};
+use std::alloc::Global;
+use std::marker::Model;
+use std::mem;
+
+/// The looseness of an expression that no bracket closes in.
+const LOOSEST: u8 = 6;
+
+/// The most brackets that may be open at a place.
+const MOST_OPEN: u32 = 256;
+
+/// Reads an expression; `NotExpr` exactly where the text spells none.
+#[tactic(auto, using(crate::proofs::Whole::wholes))]
+pub fn read_expr(alloc: Global, text: &[u8]) -> Result<Expr, ExprFault>
+    ensures ok { IfOk result (IsExpression text.now) }
+    ensures limits { IfOk result IsExpr }
+    ensures only { IfOk result (λ e. (other : Expr) → IsExpression text.now other → other ≡ e) }
+    ensures refused { result ≡ Err ExprFault.NotExpr → (e : Expr) → ¬ IsExpression text.now e }
+{
+    let mut reader = Reader::new(alloc, text)?;
+    let whole = reader.loose(alloc, MOST_OPEN, LOOSEST)?;
+    if !reader.is_at_end() {
+        return Err(ExprFault::NotExpr);
+    }
+    Ok(whole.into_expr())
+}
+
+/// The tokens that are still to be read: the next one, and those behind it.
+#[derive(Drop)]
+struct Reader<'a> {
+    lexer: Lexer<'a>,
+    next: Option<Token>,
+}
+
+impl<'a> Model for Reader<'a> {
+    ghost use Rattle.std.specs.Prelude.{◌≡◌, Option, None, List, []};
+    ghost use Rattle.sc_types.specs.declared.token.Token.{Token};
+    ghost use Rattle.sc_expr.specs.Descent.{ahead};
+
+    ghost Value = { List Token };
+
+    ghost view = { λ r. ahead r.next r.lexer };
+
+    ghost invariant = { λ r. r.next ≡ None → r.lexer ≡ [] };
+}
+
+impl<'a> Reader<'a> {
+    fn new(alloc: Global, text: &'a [u8]) -> Result<Reader<'a>, NoMemory>
+        ensures { IfOk result (λ r. r ≡ tokens false text.now) }
+    {
+        let mut lexer = Lexer::new(text, false);
+        let next = lexer.next(alloc)?;
+        Ok(Reader { lexer, next })
+    }
+
+    fn is_at_end(&self) -> bool
+        ensures { IsTrue result ↔ (self.now ≡ []) }
+    {
+        self.next.is_none()
+    }
+
+    fn advance(&mut self, alloc: Global) -> Result<Option<Token>, NoMemory>
+        ensures { IfOk result (λ token. MatchOption token ((self.old ≡ []) × (self.new ≡ [])) (λ t. self.old ≡ t ∷ self.new)) }
+    {
+        let following = self.lexer.next(alloc)?;
+        Ok(mem::replace(&mut self.next, following))
+    }
+
+    /// Passes over the next token.
+    fn skip(&mut self, alloc: Global) -> Result<(), NoMemory>
+        ensures { OnOk result (self.new ≡ drop 1 self.old) }
+    {
+        self.advance(alloc)?;
+        Ok(())
+    }
+
+    fn open(&mut self, alloc: Global) -> Result<(), ExprFault>
+        ensures ok { OnOk result (after_open self.old ≡ Some self.new) }
+        ensures refused { result ≡ Err ExprFault.NotExpr → after_open self.old ≡ None }
+        ensures shorter { OnOk result (length self.new ≤ length self.old) }
+    {
+        match self.advance(alloc)? {
+            Some(Token::Mark(Mark::Open)) => Ok(()),
+            _ => Err(ExprFault::NotExpr),
+        }
+    }
+
+    fn close(&mut self, alloc: Global) -> Result<(), ExprFault>
+        ensures ok { OnOk result (after_close self.old ≡ Some self.new) }
+        ensures refused { result ≡ Err ExprFault.NotExpr → after_close self.old ≡ None }
+        ensures shorter { OnOk result (length self.new ≤ length self.old) }
+    {
+        match self.advance(alloc)? {
+            Some(Token::Mark(Mark::Close)) => Ok(()),
+            _ => Err(ExprFault::NotExpr),
+        }
+    }
+
+    fn close_square(&mut self, alloc: Global) -> Result<(), ExprFault>
+        ensures ok { OnOk result (after_close_square self.old ≡ Some self.new) }
+        ensures refused { result ≡ Err ExprFault.NotExpr → after_close_square self.old ≡ None }
+        ensures shorter { OnOk result (length self.new ≤ length self.old) }
+    {
+        match self.advance(alloc)? {
+            Some(Token::Mark(Mark::CloseSquare)) => Ok(()),
+            _ => Err(ExprFault::NotExpr),
+        }
+    }
+
+    /// The operator that comes next, where it has this looseness.
+    fn operator(&self, looseness_wanted: u8) -> Option<Op>
+        ensures { result ≡ operator_at looseness_wanted self.now }
+    {
+        match &self.next {
+            Some(Token::Operator(op)) if looseness(*op) == looseness_wanted => Some(*op),
+            _ => None,
+        }
+    }
+
+    fn prefix(&self) -> Option<Prefix>
+        ensures { result ≡ prefix_at self.now }
+    {
+        match &self.next {
+            Some(Token::Mark(Mark::Not)) => Some(Prefix::Not),
+            Some(Token::Operator(Op::Sub)) => Some(Prefix::Minus),
+            _ => None,
+        }
+    }
+
+    fn is_at(&self, mark: Mark) -> bool
+        ensures { result ≡ is_at mark self.now }
+    {
+        match &self.next {
+            Some(Token::Mark(next)) => *next == mark,
+            _ => false,
+        }
+    }
+
+    /// An expression whose operators outside brackets are at most this loose. 1 takes in prefixes, 0 none.
+    #[cycle(descend)]
+    #[tactic(auto, using(crate::proofs::Rules::operators))]
+    fn loose(&mut self, alloc: Global, room: u32, bound: u8) -> Result<Sub, ExprFault>
+        requires { bound ≤ 6 }
+        ensures ok { IfOk result (λ e. loose_at room bound self.old ≡ Some (e, self.new)) }
+        ensures refused { result ≡ Err ExprFault.NotExpr → loose_at room bound self.old ≡ None }
+        ensures shorter { OnOk result (length self.new ≤ length self.old) }
+        ensures shallow { IfOk result (λ e. depth e ≤ 256) }
+    {
+        if bound == 0 {
+            return self.postfix(alloc, room);
+        }
+        if bound == 1 {
+            return self.prefixed(alloc, room);
+        }
+        let mut left = self.loose(alloc, room, bound - 1)?;
+        while let Some(op) = self.operator(bound) {
+            self.skip(alloc)?;
+            let right = self.loose(alloc, room, bound - 1)?;
+            left = Sub::two(alloc, op, left, right)?;
+            if !repeats(op) {
+                break;
+            }
+        }
+        Ok(left)
+    }
+
+    #[cycle(descend)]
+    #[tactic(auto, using(crate::proofs::Rules::prefixes))]
+    fn prefixed(&mut self, alloc: Global, room: u32) -> Result<Sub, ExprFault>
+        ensures ok { IfOk result (λ e. prefixed (postfix (nat_lt 0 room) (inside room)) self.old ≡ Some (e, self.new)) }
+        ensures refused { result ≡ Err ExprFault.NotExpr → prefixed (postfix (nat_lt 0 room) (inside room)) self.old ≡ None }
+        ensures shorter { OnOk result (length self.new ≤ length self.old) }
+        ensures shallow { IfOk result (λ e. depth e ≤ 256) }
+    {
+        let mut prefixes = Sequence::new(alloc);
+        while let Some(prefix) = self.prefix() {
+            self.skip(alloc)?;
+            prefixes.push(prefix)?;
+        }
+        let mut operand = self.postfix(alloc, room)?;
+        while let Some(prefix) = prefixes.pop() {
+            operand = operand.with_prefix(alloc, prefix)?;
+        }
+        Ok(operand)
+    }
+
+    #[cycle(descend)]
+    #[tactic(auto, using(crate::proofs::Rules::places))]
+    fn postfix(&mut self, alloc: Global, room: u32) -> Result<Sub, ExprFault>
+        ensures ok { IfOk result (λ e. postfix (nat_lt 0 room) (inside room) self.old ≡ Some (e, self.new)) }
+        ensures refused { result ≡ Err ExprFault.NotExpr → postfix (nat_lt 0 room) (inside room) self.old ≡ None }
+        ensures shorter { OnOk result (length self.new ≤ length self.old) }
+        ensures shallow { IfOk result (λ e. depth e ≤ 256) }
+    {
+        let mut list = self.primary(alloc, room)?;
+        while self.is_at(Mark::OpenSquare) {
+            self.skip(alloc)?;
+            let place = self.inside(alloc, room)?;
+            self.close_square(alloc)?;
+            list = Sub::item(alloc, list, place)?;
+        }
+        Ok(list)
+    }
+
+    /// What stands in brackets, where one more may be opened.
+    #[cycle(descend)]
+    #[tactic(auto, using(crate::proofs::Rules::brackets))]
+    fn inside(&mut self, alloc: Global, room: u32) -> Result<Sub, ExprFault>
+        ensures ok { IfOk result (λ e. inside room self.old ≡ Some (e, self.new)) }
+        ensures refused { result ≡ Err ExprFault.NotExpr → inside room self.old ≡ None }
+        ensures shorter { OnOk result (length self.new ≤ length self.old) }
+        ensures shallow { IfOk result (λ e. depth e ≤ 256) }
+    {
+        if room == 0 {
+            return Err(ExprFault::NotExpr);
+        }
+        self.loose(alloc, room - 1, LOOSEST)
+    }
+
+    #[cycle(descend)]
+    #[tactic(auto, using(crate::proofs::Rules::depths))]
+    fn primary(&mut self, alloc: Global, room: u32) -> Result<Sub, ExprFault>
+        ensures ok { IfOk result (λ e. primary (nat_lt 0 room) (inside room) self.old ≡ Some (e, self.new)) }
+        ensures refused { result ≡ Err ExprFault.NotExpr → primary (nat_lt 0 room) (inside room) self.old ≡ None }
+        ensures shorter { OnOk result (length self.new ≤ length self.old) }
+        ensures shallow { IfOk result (λ e. depth e ≤ 256) }
+    {
+        match self.advance(alloc)? {
+            Some(Token::Word(word)) => self.named(alloc, room, word),
+            Some(Token::Number(number)) => Ok(Sub::leaf(Expr::Int(number))),
+            Some(Token::Text(text)) => Ok(Sub::leaf(Expr::Text(text))),
+            Some(Token::Mark(Mark::Open)) => {
+                let whole = self.inside(alloc, room)?;
+                self.close(alloc)?;
+                Ok(whole)
+            }
+            Some(Token::Mark(Mark::OpenSquare)) => self.list(alloc, room),
+            _ => Err(ExprFault::NotExpr),
+        }
+    }
+
+    /// What a word begins.
+    #[cycle(descend)]
+    #[tactic(auto, using(crate::proofs::Rules::depths))]
+    fn named(&mut self, alloc: Global, room: u32, word: Bytes) -> Result<Sub, ExprFault>
+        ensures ok { IfOk result (λ e. named (nat_lt 0 room) (inside room) word self.old ≡ Some (e, self.new)) }
+        ensures refused { result ≡ Err ExprFault.NotExpr → named (nat_lt 0 room) (inside room) word self.old ≡ None }
+        ensures shorter { OnOk result (length self.new ≤ length self.old) }
+        ensures shallow { IfOk result (λ e. depth e ≤ 256) }
+    {
+        let name = word.slice();
+        if is(name, b"true") {
+            Ok(Sub::leaf(Expr::Bool(true)))
+        } else if is(name, b"false") {
+            Ok(Sub::leaf(Expr::Bool(false)))
+        } else if is(name, b"In") {
+            self.active(alloc, room)
+        } else if is(name, b"len") {
+            self.bracketed(alloc, room)?.len(alloc)
+        } else if is(name, b"text") {
+            self.bracketed(alloc, room)?.as_text(alloc)
+        } else if is(name, b"_event") {
+            self.field(alloc)
+        } else {
+            Ok(Sub::leaf(Expr::Datum(plain_name(alloc, &word)?)))
+        }
+    }
+
+    #[cycle(descend)]
+    fn bracketed(&mut self, alloc: Global, room: u32) -> Result<Sub, ExprFault>
+        ensures ok { IfOk result (λ e. bracketed (inside room) self.old ≡ Some (e, self.new)) }
+        ensures refused { result ≡ Err ExprFault.NotExpr → bracketed (inside room) self.old ≡ None }
+        ensures shorter { OnOk result (length self.new ≤ length self.old) }
+        ensures shallow { IfOk result (λ e. depth e ≤ 256) }
+    {
+        self.open(alloc)?;
+        let whole = self.inside(alloc, room)?;
+        self.close(alloc)?;
+        Ok(whole)
+    }
+
+    /// The items of a list, behind its bracket.
+    #[cycle(descend)]
+    #[tactic(auto, using(crate::proofs::Rules::lists))]
+    fn list(&mut self, alloc: Global, room: u32) -> Result<Sub, ExprFault>
+        ensures ok { IfOk result (λ e. list_of (nat_lt 0 room) (inside room) self.old ≡ Some (e, self.new)) }
+        ensures refused { result ≡ Err ExprFault.NotExpr → list_of (nat_lt 0 room) (inside room) self.old ≡ None }
+        ensures shorter { OnOk result (length self.new ≤ length self.old) }
+        ensures shallow { IfOk result (λ e. depth e ≤ 256) }
+    {
+        if room == 0 {
+            return Err(ExprFault::NotExpr);
+        }
+        let mut items = Sequence::new(alloc);
+        if self.is_at(Mark::CloseSquare) {
+            self.skip(alloc)?;
+            return Ok(Sub::leaf(Expr::List(items)));
+        }
+        let mut deepest = 0;
+        loop {
+            let item = self.inside(alloc, room)?;
+            deepest = item.depth().max(deepest);
+            items.push(item.into_expr())?;
+            if !self.goes_on(alloc)? {
+                return Sub::limited(Expr::List(items), deepest + 1);
+            }
+        }
+    }
+
+    /// Passes over what stands behind an item: true for a comma, false for the bracket that closes the list.
+    fn goes_on(&mut self, alloc: Global) -> Result<bool, ExprFault>
+        ensures comma { result ≡ Ok true → self.old ≡ Sign Comma ∷ self.new }
+        ensures close { result ≡ Ok false → self.old ≡ Sign CloseSquare ∷ self.new }
+        ensures refused { result ≡ Err ExprFault.NotExpr → is_unended self.old ≡ true }
+    {
+        match self.advance(alloc)? {
+            Some(Token::Mark(Mark::Comma)) => Ok(true),
+            Some(Token::Mark(Mark::CloseSquare)) => Ok(false),
+            _ => Err(ExprFault::NotExpr),
+        }
+    }
+
+    /// The state that is asked for, behind `In`.
+    #[tactic(auto, using(crate::proofs::Rules::depths))]
+    fn active(&mut self, alloc: Global, room: u32) -> Result<Sub, ExprFault>
+        ensures ok { IfOk result (λ e. active (nat_lt 0 room) self.old ≡ Some (e, self.new)) }
+        ensures refused { result ≡ Err ExprFault.NotExpr → active (nat_lt 0 room) self.old ≡ None }
+        ensures shorter { OnOk result (length self.new ≤ length self.old) }
+        ensures shallow { IfOk result (λ e. depth e ≤ 256) }
+    {
+        if room == 0 {
+            return Err(ExprFault::NotExpr);
+        }
+        self.open(alloc)?;
+        let id = self.state_id(alloc)?;
+        self.close(alloc)?;
+        Ok(Sub::leaf(Expr::Active(id)))
+    }
+
+    fn state_id(&mut self, alloc: Global) -> Result<Bytes, ExprFault>
+        ensures ok { IfOk result (λ id. state_id self.old ≡ Some (id, self.new)) }
+        ensures refused { result ≡ Err ExprFault.NotExpr → state_id self.old ≡ None }
+        ensures shorter { OnOk result (length self.new ≤ length self.old) }
+    {
+        match self.advance(alloc)? {
+            Some(Token::Text(text)) => Ok(text),
+            Some(Token::Word(word)) if is_plain_name(word.slice()) => Ok(word),
+            _ => Err(ExprFault::NotExpr),
+        }
+    }
+
+    fn word(&mut self, alloc: Global) -> Result<Bytes, ExprFault>
+        ensures ok { IfOk result (λ w. word self.old ≡ Some (w, self.new)) }
+        ensures refused { result ≡ Err ExprFault.NotExpr → word self.old ≡ None }
+        ensures shorter { OnOk result (length self.new ≤ length self.old) }
+    {
+        match self.advance(alloc)? {
+            Some(Token::Word(word)) => Ok(word),
+            _ => Err(ExprFault::NotExpr),
+        }
+    }
+
+    fn dot(&mut self, alloc: Global) -> Result<(), ExprFault>
+        ensures ok { OnOk result (after_dot self.old ≡ Some self.new) }
+        ensures refused { result ≡ Err ExprFault.NotExpr → after_dot self.old ≡ None }
+        ensures shorter { OnOk result (length self.new ≤ length self.old) }
+    {
+        match self.advance(alloc)? {
+            Some(Token::Mark(Mark::Dot)) => Ok(()),
+            _ => Err(ExprFault::NotExpr),
+        }
+    }
+
+    /// A field of the event, behind `_event`.
+    #[tactic(auto, using(crate::proofs::Rules::depths))]
+    fn field(&mut self, alloc: Global) -> Result<Sub, ExprFault>
+        ensures ok { IfOk result (λ e. event_field self.old ≡ Some (e, self.new)) }
+        ensures refused { result ≡ Err ExprFault.NotExpr → event_field self.old ≡ None }
+        ensures shorter { OnOk result (length self.new ≤ length self.old) }
+        ensures shallow { IfOk result (λ e. depth e ≤ 256) }
+    {
+        self.dot(alloc)?;
+        let word = self.word(alloc)?;
+        if is(word.slice(), b"data") {
+            return self.payload(alloc);
+        }
+        match field_of(word.slice()) {
+            Some(field) => Ok(Sub::leaf(Expr::Field(field))),
+            None => Err(ExprFault::NotExpr),
+        }
+    }
+
+    /// A part of the payload, or all of it, behind `_event.data`.
+    #[tactic(auto, using(crate::proofs::Rules::depths))]
+    fn payload(&mut self, alloc: Global) -> Result<Sub, ExprFault>
+        ensures ok { IfOk result (λ e. payload self.old ≡ Some (e, self.new)) }
+        ensures refused { result ≡ Err ExprFault.NotExpr → payload self.old ≡ None }
+        ensures shorter { OnOk result (length self.new ≤ length self.old) }
+        ensures shallow { IfOk result (λ e. depth e ≤ 256) }
+    {
+        if !self.is_at(Mark::Dot) {
+            return Ok(Sub::leaf(Expr::Field(EventField::Payload)));
+        }
+        self.skip(alloc)?;
+        let word = self.word(alloc)?;
+        let name = plain_name(alloc, &word)?;
+        Ok(Sub::leaf(Expr::Field(EventField::PayloadOf(name))))
+    }
+}
+
+fn is(a: &[u8], b: &[u8]) -> bool
+    ensures { result ≡ bytes_eq a.now b.now }
+{
+    a == b
+}
+
+/// The field of the event that a word names, other than its payload.
+fn field_of(word: &[u8]) -> Option<EventField>
+    ensures { result ≡ field_of word.now }
+{
+    if is(b"name", word) {
+        Some(EventField::Name)
+    } else if is(b"type", word) {
+        Some(EventField::Kind)
+    } else if is(b"sendid", word) {
+        Some(EventField::SendId)
+    } else if is(b"origin", word) {
+        Some(EventField::Origin)
+    } else if is(b"origintype", word) {
+        Some(EventField::OriginType)
+    } else if is(b"invokeid", word) {
+        Some(EventField::InvokeId)
+    } else {
+        None
+    }
+}
+
+/// How loosely an operator binds: 2 binds closest.
+fn looseness(op: Op) -> u8
+    ensures { result ≡ looseness op }
+{
+    match op {
+        Op::Or => 6,
+        Op::And => 5,
+        Op::Eq | Op::Ne | Op::Lt | Op::Le | Op::Gt | Op::Ge => 4,
+        Op::Add | Op::Sub => 3,
+        Op::Mul | Op::Div | Op::Rem => 2,
+    }
+}
+
+fn repeats(op: Op) -> bool
+    ensures { result ≡ repeats op }
+{
+    looseness(op) != 4
+}
+
+fn plain_name(alloc: Global, word: &Bytes) -> Result<PlainName, ExprFault>
+    ensures ok { IfOk result (λ n. (n ≡ word.now) × IsPlainName word.now) }
+    ensures refused { result ≡ Err ExprFault.NotExpr → ¬ IsPlainName word.now }
+{
+    match PlainName::of(alloc, word.slice()) {
+        Ok(name) => Ok(name),
+        Err(Unfit::Form) => Err(ExprFault::NotExpr),
+        Err(Unfit::NoMemory) => Err(ExprFault::NoMemory),
+    }
+}

@@ -1,0 +1,134 @@
+ghost use Rattle.std.specs.Prelude.{◌≡◌, ◌≢◌, ◌≤◌, IfOk};
+ghost use Rattle.sc_types.specs.Expressions.{depth};
+ghost use Rattle.sc_types.specs.declared.expr.Expr.TheVariants.{Two, Item, Len, AsText};
+ghost use Rattle.sc_expr.specs.Descent.{within, prefix_of};
+
+use crate::fault::ExprFault;
+use sc_types::{Boxed, Expr, Op};
+use std::alloc::Global;
+use std::marker::Model;
+
+/// What stands before an operand.
+#[derive(Clone, Copy, Debug, PartialEq, Eq)]
+pub(crate) enum Prefix {
+    Not,
+    Minus,
+}
+
+/// An expression of at most 256 levels, with its depth.
+#[derive(Drop)]
+pub(crate) struct Sub {
+    expr: Expr,
+    levels: u32,
+}
+
+impl Model for Sub {
+    ghost use Rattle.std.specs.Prelude.{◌≡◌, ◌≤◌};
+    ghost use Rattle.sc_types.specs.Expressions.{depth};
+    ghost use Rattle.sc_types.specs.declared.expr.Expr.{Expr};
+    ghost use Rattle.sc_types.specs.contracts.expr.Expr as c;
+    ghost use Rattle.std.specs.Coded.{codes};
+
+    ghost Value = { Expr };
+
+    ghost coded = { Prim.hlevel (codes, c.the_row.coded) };
+
+    ghost view = { λ s. s.expr };
+
+    ghost invariant = { λ s. (s.levels ≡ depth s.expr) × (s.levels ≤ 256) };
+}
+
+impl Sub {
+    pub(crate) fn leaf(expr: Expr) -> Sub
+        requires { depth expr ≡ 1 }
+        ensures value { result ≡ expr }
+        ensures shallow { depth result ≤ 256 }
+    {
+        Sub { expr, levels: 1 }
+    }
+
+    pub(crate) fn limited(expr: Expr, levels: u32) -> Result<Sub, ExprFault>
+        requires { levels ≡ depth expr }
+        ensures ok { IfOk result (λ s. within expr ≡ Some s) }
+        ensures deep { result ≡ Err ExprFault.NotExpr → within expr ≡ None }
+        ensures shallow { IfOk result (λ s. depth s ≤ 256) }
+        ensures memory { result ≢ Err ExprFault.NoMemory }
+    {
+        if levels > 256 {
+            return Err(ExprFault::NotExpr);
+        }
+        Ok(Sub { expr, levels })
+    }
+
+    pub(crate) fn depth(&self) -> u32
+        ensures value { result ≡ depth self.now }
+        ensures bound { result ≤ 256 }
+    {
+        self.levels
+    }
+
+    pub(crate) fn into_expr(self) -> Expr
+        ensures value { result ≡ self }
+        ensures shallow { depth self ≤ 256 }
+    {
+        self.expr
+    }
+
+    #[tactic(auto, using(crate::proofs::Rules::depths))]
+    pub(crate) fn with_prefix(self, alloc: Global, prefix: Prefix) -> Result<Sub, ExprFault>
+        ensures ok { IfOk result (λ s. within (prefix_of prefix self) ≡ Some s) }
+        ensures deep { result ≡ Err ExprFault.NotExpr → within (prefix_of prefix self) ≡ None }
+        ensures shallow { IfOk result (λ s. depth s ≤ 256) }
+    {
+        let Sub { expr, levels } = self;
+        let operand = Boxed::new(alloc, expr)?;
+        match prefix {
+            Prefix::Not => Sub::limited(Expr::Not(operand), levels + 1),
+            Prefix::Minus => Sub::limited(Expr::Neg(operand), levels + 1),
+        }
+    }
+
+    #[tactic(auto, using(crate::proofs::Rules::depths))]
+    pub(crate) fn len(self, alloc: Global) -> Result<Sub, ExprFault>
+        ensures ok { IfOk result (λ s. within (Len self) ≡ Some s) }
+        ensures deep { result ≡ Err ExprFault.NotExpr → within (Len self) ≡ None }
+        ensures shallow { IfOk result (λ s. depth s ≤ 256) }
+    {
+        let Sub { expr, levels } = self;
+        Sub::limited(Expr::Len(Boxed::new(alloc, expr)?), levels + 1)
+    }
+
+    #[tactic(auto, using(crate::proofs::Rules::depths))]
+    pub(crate) fn as_text(self, alloc: Global) -> Result<Sub, ExprFault>
+        ensures ok { IfOk result (λ s. within (AsText self) ≡ Some s) }
+        ensures deep { result ≡ Err ExprFault.NotExpr → within (AsText self) ≡ None }
+        ensures shallow { IfOk result (λ s. depth s ≤ 256) }
+    {
+        let Sub { expr, levels } = self;
+        Sub::limited(Expr::AsText(Boxed::new(alloc, expr)?), levels + 1)
+    }
+
+    #[tactic(auto, using(crate::proofs::Rules::depths))]
+    pub(crate) fn two(alloc: Global, op: Op, left: Sub, right: Sub) -> Result<Sub, ExprFault>
+        ensures ok { IfOk result (λ s. within (Two op left right) ≡ Some s) }
+        ensures deep { result ≡ Err ExprFault.NotExpr → within (Two op left right) ≡ None }
+        ensures shallow { IfOk result (λ s. depth s ≤ 256) }
+    {
+        let levels = left.levels.max(right.levels) + 1;
+        let left = Boxed::new(alloc, left.expr)?;
+        let right = Boxed::new(alloc, right.expr)?;
+        Sub::limited(Expr::Two(op, left, right), levels)
+    }
+
+    #[tactic(auto, using(crate::proofs::Rules::depths))]
+    pub(crate) fn item(alloc: Global, list: Sub, place: Sub) -> Result<Sub, ExprFault>
+        ensures ok { IfOk result (λ s. within (Item list place) ≡ Some s) }
+        ensures deep { result ≡ Err ExprFault.NotExpr → within (Item list place) ≡ None }
+        ensures shallow { IfOk result (λ s. depth s ≤ 256) }
+    {
+        let levels = list.levels.max(place.levels) + 1;
+        let list = Boxed::new(alloc, list.expr)?;
+        let place = Boxed::new(alloc, place.expr)?;
+        Sub::limited(Expr::Item(list, place), levels)
+    }
+}
