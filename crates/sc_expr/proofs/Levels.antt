@@ -307,7 +307,7 @@ list_ends room start ts us rest es all e free first kept read close push =
     let there = inside_there room ts (e, us) read in
     list_begins room start free first
     ∙ ap listed (sym kept.0 ∙ ap (in_front es) (items_goes (inside room) (length start - length es) ts (omega (arith, kept.1))
-      ∙ ap (option_and_then _) read ∙ ap (item_end _ e) close))
+    ∙ ap (option_and_then _) read ∙ ap (item_end _ e) close))
     ∙ ap (λ es. option_map (with_rest rest) (within (Listed es))) (sym push)
 
 pub list_made : (room : ℕ) (start ts us rest : List Token) (es all : List Expr) (e made : Expr) → 0 < room → is_at CloseSquare start ≡ false
@@ -331,9 +331,10 @@ list_step room start ts us rest es all e kept read shorter comma push =
     let longer : length all ≡ length es + 1 = ap length push ∙ length-append es (e ∷ []) in
     let behind : length us ≡ length rest + 1 = ap length comma ∙ omega arith in
     let m : ℕ = length start - length es - 1 in
-    let count : length start - length all ≡ m = omega (arith, longer) in
-    ( ap (in_front all) (ap (λ n. items (inside room) n rest) count) ∙ ap (λ es. in_front es (items (inside room) m rest)) push
-      ∙ sym (in_front-push es e _)
-      ∙ ap (in_front es) (sym (items_goes (inside room) (length start - length es) ts (omega (arith, kept.1)) ∙ ap (option_and_then _) read ∙ ap (item_end _ e) comma))
-      ∙ kept.0,
-      omega (arith, kept.1, longer, behind, shorter) )
+    let count : length start - length all ≡ m = omega (arith, longer) in (
+      ap (in_front all) (ap (λ n. items (inside room) n rest) count) ∙ ap (λ es. in_front es (items (inside room) m rest)) push
+          ∙ sym (in_front-push es e _)
+          ∙ ap (in_front es) (sym (items_goes (inside room) (length start - length es) ts (omega (arith, kept.1)) ∙ ap (option_and_then _) read ∙ ap (item_end _ e) comma))
+          ∙ kept.0,
+      omega (arith, kept.1, longer, behind, shorter),
+    )

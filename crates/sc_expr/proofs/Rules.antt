@@ -5,7 +5,11 @@ use Rattle.sc_expr.proofs.Levels.{loose_none, loose_prefixed, loose_more, inside
 pub ruleset depths = (depth-Bool, depth-Int, depth-Text, depth-Datum, depth-Field, depth-Active, depth-Not, depth-Neg, depth-Two, depth-Item, depth-Len, depth-AsText, depth-List)
 
 pub ruleset operators = (loose_none, loose_prefixed, loose_more, chain_stops, chain_refused, chain_too_deep, chain_step, chain_last, operator_there)
+
 pub ruleset prefixes = (prefix_stops, all_prefixed-none, prefix_step, prefix_there, prefix_made, prefix_too_deep)
+
 pub ruleset places = (index_stops, index_refused, index_unclosed, index_too_deep, index_step, mark_there)
+
 pub ruleset brackets = (inside_none, inside_more)
+
 pub ruleset lists = (depth-List, in_front-none, deepest-push, list_refused, list_unended, list_made, list_too_deep, list_step)

@@ -10,7 +10,9 @@ ghost use Rattle.sc_expr.specs.Descent.{after_open, after_close, after_close_squ
 use crate::fault::ExprFault;
 use crate::lexer::Lexer;
 use crate::sub::{Prefix, Sub};
-use sc_types::{Bytes, EventField, Expr, Mark, NoMemory, Op, PlainName, Sequence, Token, Unfit, is_plain_name};
+use sc_types::{
+    Bytes, EventField, Expr, Mark, NoMemory, Op, PlainName, Sequence, Token, Unfit, is_plain_name,
+};
 use std::alloc::Global;
 use std::marker::Model;
 use std::mem;

@@ -22,8 +22,12 @@ abbrev pub is_item : Value → Bool
 is_item v = elim (out-Value v) [ Value-F.Bool b ↦ false | Value-F.Int n ↦ is_int n | Value-F.Text text ↦ is_text text | Value-F.List items ↦ false ]
 
 abbrev pub fits : Value → Bool
-fits v = elim (out-Value v) [ Value-F.Bool b ↦ true | Value-F.Int n ↦ is_int n | Value-F.Text text ↦ is_text text
-    | Value-F.List items ↦ nat_le (length items) 256 && list_all is_item items ]
+fits v = elim (out-Value v) [
+  | Value-F.Bool b ↦ true
+  | Value-F.Int n ↦ is_int n
+  | Value-F.Text text ↦ is_text text
+  | Value-F.List items ↦ nat_le (length items) 256 && list_all is_item items
+]
 
 -- writing
 

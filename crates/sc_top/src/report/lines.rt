@@ -39,11 +39,7 @@ pub(crate) fn put_counted(
     end_line(out)
 }
 
-fn put_pair(
-    alloc: Global,
-    out: &mut Vec<u8>,
-    pair: &(PlainName, Value),
-) -> Result<(), NoMemory>
+fn put_pair(alloc: Global, out: &mut Vec<u8>, pair: &(PlainName, Value)) -> Result<(), NoMemory>
     ensures { OnOk result (out.new.items ≡ out.old.items ++ pair_text pair.now) }
 {
     put(out, b" ")?;
@@ -52,11 +48,7 @@ fn put_pair(
     put_value(alloc, out, &pair.1)
 }
 
-fn put_pairs(
-    alloc: Global,
-    out: &mut Vec<u8>,
-    pairs: &[(PlainName, Value)],
-) -> Result<(), NoMemory>
+fn put_pairs(alloc: Global, out: &mut Vec<u8>, pairs: &[(PlainName, Value)]) -> Result<(), NoMemory>
     ensures { OnOk result (out.new.items ≡ out.old.items ++ flat_map pair_text pairs.now) }
 {
     for pair in pairs {

@@ -9,8 +9,8 @@ ghost use Rattle.sc_top.specs.Held.{IsHeld};
 
 use crate::host::Host;
 use crate::report::lines::{end_line, put, put_counted, put_number};
-use sc_expr::put_value;
 use crate::report::replies::put_how;
+use sc_expr::put_value;
 use sc_law::Tree;
 use sc_types::{NoMemory, Phase, PlainName, SessionImage, SessionState, Value};
 use std::alloc::Global;
