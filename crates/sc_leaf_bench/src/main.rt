@@ -1,7 +1,8 @@
-//! Work for bench/leaf.sh to time: each line of the input names a kind of work, a size and a number of rounds,
-//! and is answered by that line and a sum, which doesn't depend on time.
+//! Work for bench/leaf.sh and bench/expressions.sh to time: each line of the input names a kind of work, a size and
+//! a number of rounds, and is answered by that line and a sum, which doesn't depend on time.
 #![tactic(auto)]
 
+mod expressions;
 mod links;
 mod rows;
 mod timers;
@@ -15,6 +16,7 @@ fn done(alloc: Global, work: &str, size: u32, rounds: u32) -> Option<u64> {
         "rising" => timers::work(alloc, size, rounds, 1),
         "links" => links::work(alloc, size, rounds),
         "rows" => rows::work(alloc, size, rounds),
+        "expressions" => expressions::work(alloc, size, rounds),
         _ => None,
     }
 }
