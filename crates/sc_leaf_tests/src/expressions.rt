@@ -290,6 +290,7 @@ const LARGE_EXPRESSIONS: &str = r#"256 ( 1 a 256 ) => read
 255 ( 1 In(a) 255 ) => read
 255 ! 1 a => read
 256 ! 1 a => refused
+20000 ! 1 a => refused
 255 - 1 a => read
 256 -! 1 a => refused
 1 a 255 +a => read
@@ -454,15 +455,10 @@ fn a_text_takes_no_control_byte_and_is_utf_8(rt: HostRuntime) -> Result<(), Fail
 
 #[test]
 fn a_mebibyte_of_one_byte_spells_nothing(rt: HostRuntime) -> Result<(), Fail> {
-    for (byte, before_a) in [
-        (b' ', "a"),
-        (b'9', "refused"),
-        (b'!', "refused"),
-        (b'(', "refused"),
-    ] {
+    for (byte, before_a) in [(b' ', "a"), (b'9', "refused"), (b'(', "refused")] {
         let mut text = Vec::new(rt.alloc());
-        for _ in 0..1_048_576 {
-            text.push(byte)?;
+        for _ in 0..1024 {
+            text.extend_from_slice(&[byte; 1024])?;
         }
         assert_eq!(rt;
             expression(rt.alloc(), &text)?.slice(),

@@ -25,8 +25,12 @@ impl Model for Timers {
     ghost use Rattle.slab.specs.Slab.{get as send_at, HasRoomFor};
     ghost use Rattle.sc_timers.specs.Sends.{TimersOf};
     ghost use Rattle.sc_timers.specs.Order.{sends_at, AreKept};
+    ghost use Rattle.sc_timers.specs.contracts.timed.Timed as timed;
+    ghost use Rattle.std.specs.Coded.{codes};
 
     ghost Value = { TimersOf };
+
+    ghost coded = { Prim.hlevel (codes, timed.the_row.coded) };
 
     ghost view = { λ t. record { sends = sends_at (send_at t.sends) t.order.items; spare = t.spare } };
 
