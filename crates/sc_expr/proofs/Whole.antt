@@ -1,11 +1,13 @@
 -- A text that is read to its end.
 use Rattle.std.proofs.Common.{◌≡◌, ℕ, false, Option, Some, None, List, [], ◌∷◌, option_and_then, refl, sym, ap, ◌∙◌}
 use Rattle.std.proofs.lemmas.Option.{none-some}
-use Rattle.sc_types.specs.Expressions.{IsExpr, IsExpression}
+use Rattle.std.specs.Prelude.{MatchOption}
+use Rattle.sc_types.specs.Expressions.{IsExpr, IsExpression, IsReading}
 use Rattle.sc_types.specs.Tokens.{tokens}
 use Rattle.sc_types.specs.declared.expr.Expr.{Expr}
 use Rattle.sc_types.specs.declared.token.Token.{Token}
 use Rattle.sc_expr.specs.Descent.{loose_at, whole, expression_of}
+use Rattle.sc_expr.specs.Reading.{expr_of}
 use Rattle.sc_expr.proofs.Grammar.{reads_spelled, spelled_reads, one_tree}
 use Rattle.sc_expr.proofs.Limits.{within_limits}
 
@@ -42,4 +44,28 @@ pub whole_unended : (text : List ℕ) (rest : List Token) (read : Expr) → loos
     → (e : Expr) → ¬ IsExpression text e
 whole_unended text rest read got more e is = refused text _ (ap (option_and_then whole) got) (more_behind read rest more) e is
 
-pub ruleset wholes = (whole_read, whole_within, whole_only, whole_refused, whole_unended)
+pub whole_value : (text : List ℕ) (rest : List Token) (e : Expr) → loose_at 256 6 (tokens false text) ≡ Some (e, rest) → rest ≡ [] → expr_of text ≡ Some e
+unfolding expr_of
+whole_value text rest e read end = ends (tokens false text) rest e read end
+
+pub whole_none : (text : List ℕ) → loose_at 256 6 (tokens false text) ≡ None → expr_of text ≡ None
+unfolding expr_of
+whole_none text none = ap (option_and_then whole) none
+
+pub whole_unended_none : (text : List ℕ) (rest : List Token) (read : Expr) → loose_at 256 6 (tokens false text) ≡ Some (read, rest) → ¬ (rest ≡ [])
+    → expr_of text ≡ None
+unfolding expr_of
+whole_unended_none text rest read got more = ap (option_and_then whole) got ∙ more_behind read rest more
+
+reading_of : (text : List ℕ) (o : Option Expr) → expression_of (tokens false text) ≡ o → MatchOption o ((e : Expr) → ¬ IsExpression text e) (IsExpression text)
+reading_of text None read = λ e is. refused text None read refl e is
+reading_of text (Some e) read =
+    let known = reads_spelled (tokens false text) e read in
+    record { spelled = known.0; shallow = known.1 }
+
+-- what is read is what the grammar has
+pub is_reading : IsReading expr_of
+unfolding expr_of
+is_reading text = reading_of text _ refl
+
+pub ruleset wholes = (whole_read, whole_within, whole_only, whole_refused, whole_unended, whole_value, whole_none, whole_unended_none, is_reading)

@@ -1,3 +1,4 @@
 pub mod Descent
 pub mod Literals
 pub mod Numbers
+pub mod Reading

@@ -1,10 +1,11 @@
 ghost use Rattle.std.specs.Prelude.{◌≡◌, ◌≤◌, ◌==◌, true, false, codes, nat_lt, drop, length, [], ◌∷◌, ◌↔◌, IsTrue, IfOk, OnOk, MatchOption};
 ghost use Rattle.std.specs.Str.{bytes_eq};
-ghost use Rattle.sc_types.specs.Expressions.{IsExpr, IsExpression, depth, looseness, repeats};
+ghost use Rattle.sc_types.specs.Expressions.{IsExpr, IsExpression, IsReading, depth, looseness, repeats};
 ghost use Rattle.sc_types.specs.Text.{IsPlainName};
 ghost use Rattle.sc_types.specs.Tokens.{tokens};
 ghost use Rattle.sc_types.specs.declared.token.Mark.TheVariants.{CloseSquare, Comma};
 ghost use Rattle.sc_types.specs.declared.token.Token.TheVariants.{Mark as Sign};
+ghost use Rattle.sc_expr.specs.Reading.{expr_of};
 ghost use Rattle.sc_expr.specs.Descent.{after_open, after_close, after_close_square, operator_at, prefix_at, is_at, is_unended, after_dot, state_id, word, field_of, loose_at, prefixed, postfix, inside, primary, named, bracketed, list_of, active, event_field, payload};
 
 use crate::fault::ExprFault;
@@ -30,6 +31,9 @@ pub fn read_expr(alloc: Global, text: &[u8]) -> Result<Expr, ExprFault>
     ensures limits { IfOk result IsExpr }
     ensures only { IfOk result (λ e. (other : Expr) → IsExpression text.now other → other ≡ e) }
     ensures refused { result ≡ Err ExprFault.NotExpr → (e : Expr) → ¬ IsExpression text.now e }
+    ensures value { IfOk result (λ e. expr_of text.now ≡ Some e) }
+    ensures none { result ≡ Err ExprFault.NotExpr → expr_of text.now ≡ None }
+    ensures reading { IsReading expr_of }
 {
     let mut reader = Reader::new(alloc, text)?;
     let whole = reader.loose(alloc, MOST_OPEN, LOOSEST)?;

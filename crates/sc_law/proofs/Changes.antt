@@ -1,6 +1,5 @@
 -- What a command can do to a host: the host machine's answers, by cases.
 use Rattle.std.proofs.Common.{◌≡◌, ℕ, ◌+◌, Bool, true, false, not, Option, Some, None, is_some, List, [], ◌∷◌, ◌++◌, refl, if◌then◌else◌}
-use Rattle.sc_types.specs.FlatChart.{flat_chart_of}
 use Rattle.sc_types.specs.declared.chart.Chart.{Chart}
 use Rattle.sc_types.specs.declared.command.Command.{Command}
 use Rattle.sc_types.specs.declared.command.Command.TheVariants.{Install, Start, Post, Step}
@@ -13,6 +12,7 @@ use Rattle.sc_types.specs.declared.session.Cue.{Cue}
 use Rattle.sc_types.specs.declared.session.Phase.{Phase}
 use Rattle.sc_types.specs.declared.session.Phase.TheVariants.{Fresh, Running, Ended}
 use Rattle.sc_types.specs.declared.value.Value.{Value}
+use Rattle.sc_law.specs.FlatCharts.{flat_chart_of}
 use Rattle.sc_law.specs.Host.{Answer, refused, accepted, has_chart, is_too_long, has_slash, session_place, session_named, install_read, fresh_session, queue, post_to, post_found, cue_of, step_cue, step_in, step_found, answer}
 
 -- a session that takes events: it has not ended

@@ -2,9 +2,10 @@
 use Rattle.std.specs.Prelude.{ℕ, ◌+◌, ◌==◌, Bool, false, not, if◌then◌else◌, nat_lt, is_some, Option, Some, None, option_map, option_and_then, unwrap_or, List, [], ◌∷◌, ◌++◌, length, drop, find, position, slice_get, slice_set}
 use Rattle.std.specs.List.{list_any}
 use Rattle.std.specs.Str.{bytes_eq}
-use Rattle.sc_types.specs.FlatChart.{flat_chart_of, chart_of}
+use Rattle.sc_types.specs.ChartTexts.{node}
 use Rattle.sc_types.specs.declared.chart.Chart.{Chart}
 use Rattle.sc_types.specs.declared.chart.ChartFault.{ChartFault}
+use Rattle.sc_types.specs.declared.chart.Tag.TheVariants as tag
 use Rattle.sc_types.specs.declared.command.Command.{Command}
 use Rattle.sc_types.specs.declared.command.Command.TheVariants.{Install, Start, Post, Step}
 use Rattle.sc_types.specs.declared.command.Refusal.{Refusal}
@@ -29,6 +30,7 @@ use Rattle.sc_types.specs.declared.session.Phase.TheVariants as phase
 use Rattle.sc_types.specs.declared.session.SessionState.{SessionState}
 use Rattle.sc_types.specs.declared.value.Value.{Value}
 use Rattle.sc_law.specs.declared.run_state.TurnResult.{TurnResult}
+use Rattle.sc_law.specs.FlatCharts.{flat_chart_of}
 use Rattle.sc_law.specs.Turn.{turn}
 
 -- what the host answers: itself after the command, the reply, what was logged, and what became of each effect
@@ -60,9 +62,9 @@ is_chart_named name chart = bytes_eq chart.name name
 abbrev pub has_chart : HostImage → List ℕ → Bool
 has_chart g name = list_any (is_chart_named name) g.charts
 
--- a chart with this root and nothing else
+-- a root and nothing else
 abbrev pub bare_chart : Chart
-bare_chart = chart_of []
+bare_chart = record { root = node tag.Scxml [] [] }
 
 -- the chart of a session; it is always among the charts
 abbrev pub chart_place : HostImage → List ℕ → Option ℕ
@@ -89,7 +91,7 @@ with_session g place s = record g { sessions = slice_set g.sessions place s }
 
 -- install
 
--- Why a text is not read as a chart. This version reads flat charts alone, and every other text counts as one
+-- Why a text is not read as a chart. This version runs flat charts alone, and every other text counts as one
 -- that is no JSON.
 abbrev pub not_read : ChartFault
 not_read = record { number = 1; path = []; member = [] }

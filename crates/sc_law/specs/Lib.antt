@@ -1,7 +1,11 @@
+pub mod Configurations
 pub mod Content
 pub mod Entry
+pub mod FlatCharts
 pub mod History
 pub mod Host
+pub mod LegalCharts
+pub mod Legality
 pub mod Lines
 pub mod Microstep
 pub mod Report

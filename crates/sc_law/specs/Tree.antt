@@ -1,9 +1,10 @@
 -- The states of a chart (SCXML 3.1 to 3.11), named by their places in document order, from 0. What stands
 -- where is read off the paths. The root is above every state; a number past the states names it.
-use Rattle.std.specs.Prelude.{ℕ, ◌+◌, Bool, false, not, ◌&&◌, if◌then◌else◌, nat_eq, nat_lt, Option, Some, None, option_map, option_and_then, unwrap_or, List, [], ◌∷◌, ◌++◌, length, reverse, find, position, slice_get, codes}
+use Rattle.std.specs.Prelude.{ℕ, ◌+◌, Bool, true, false, not, ◌&&◌, if◌then◌else◌, nat_eq, nat_lt, Option, Some, None, option_map, option_and_then, unwrap_or, List, [], ◌∷◌, ◌++◌, length, reverse, find, position, slice_get, codes}
 use Rattle.std.specs.Option.{option_map_or}
 use Rattle.std.specs.List.{list_any, starts_with}
 use Rattle.std.specs.Str.{bytes_eq}
+use Rattle.sc_types.specs.Elements.{is_state}
 use Rattle.sc_types.specs.declared.chart.Chart.{Chart}
 use Rattle.sc_types.specs.declared.chart.Member.{Member}
 use Rattle.sc_types.specs.declared.chart.Member.TheVariants.{Plain, Items, Code}
@@ -12,16 +13,15 @@ use Rattle.sc_types.specs.declared.chart.Node.{Node, out-Node}
 use Rattle.sc_types.specs.declared.chart.Node.TheOpen.{Node-F}
 use Rattle.sc_types.specs.declared.chart.Node.TheFolds.{fold-Node}
 use Rattle.sc_types.specs.declared.chart.Tag.{Tag}
-use Rattle.sc_types.specs.declared.chart.Tag.TheVariants.{State}
+use Rattle.sc_types.specs.declared.chart.Tag.TheVariants.{State, Parallel, Final}
 
 -- the places among child elements that lead from the root to an element
 abbrev pub Path : Type 0
 Path = List ℕ
 
--- a state's own path, and nothing of another element
+-- the path of a state, parallel, final or history, and nothing of another element
 abbrev pub own_path : Tag → Path → List Path
-own_path State path = path ∷ []
-own_path tag path = []
+own_path tag path = if is_state tag then path ∷ [] else []
 
 abbrev pub kids : Node → List Node
 kids n = (out-Node n).kids
@@ -77,9 +77,27 @@ numbers_where test s (path ∷ paths) = if test path then s ∷ numbers_where te
 abbrev pub ancestors : Chart → ℕ → List ℕ
 ancestors c s = reverse (numbers_where (λ path. leads_on path (path_of c s)) 0 (state_paths c))
 
--- a state without a child state is atomic
+abbrev pub tag_of : Node → Tag
+tag_of n = (out-Node n).tag
+
+-- a state, and no history
+abbrev pub is_proper_state : Tag → Bool
+is_proper_state State = true
+is_proper_state Parallel = true
+is_proper_state Final = true
+is_proper_state tag = false
+
+abbrev pub has_states : Node → Bool
+has_states n = list_any (λ kid. is_proper_state (tag_of kid)) (kids n)
+
+-- a state without child states is atomic, and so is a final
+abbrev pub is_atomic_element : Node → Tag → Bool
+is_atomic_element n State = not (has_states n)
+is_atomic_element n Final = true
+is_atomic_element n tag = false
+
 abbrev pub is_atomic : Chart → ℕ → Bool
-is_atomic c s = not (list_any (λ path. leads_on (path_of c s) path) (state_paths c))
+is_atomic c s = option_map_or (λ n. is_atomic_element n (tag_of n)) (node_of c s) false
 
 abbrev pub member : List ℕ → Node → Option Member
 member name n = option_map (λ (m : List ℕ × Member). m.1) (find (λ (m : List ℕ × Member). bytes_eq m.0 name) (out-Node n).members)

@@ -14,4 +14,4 @@ mod tree;
 pub use entry::EntryTriple;
 pub use interpreter::turn;
 pub use run_state::{Effect, RunState, TurnResult};
-pub use tree::{Path, Transition, Tree};
+pub use tree::{Path, Transition, Tree, has_states, is_atomic_element, leads_on, member, node_at};

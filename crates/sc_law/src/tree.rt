@@ -2,7 +2,7 @@ ghost use Rattle.std.specs.Prelude.{◌≡◌, ◌++◌, ◌==◌, IfOk, OnOk, f
 ghost use Rattle.std.specs.List.{list_any};
 ghost use Rattle.std.specs.Option.{option_copied, option_map_or};
 ghost use Rattle.std.specs.Str.{bytes_eq};
-ghost use Rattle.sc_law.specs.Tree.{own_path, state_paths, paths_from, node_at, path_of, node_of, kids_of, leads_on, is_below, numbers_where, ancestors, is_atomic, member, id_of, has_id, state_named};
+ghost use Rattle.sc_law.specs.Tree.{own_path, state_paths, paths_from, node_at, path_of, node_of, kids_of, leads_on, is_below, numbers_where, ancestors, tag_of, is_proper_state, has_states, is_atomic_element, is_atomic, member, id_of, has_id, state_named};
 
 use sc_types::{Chart, Member, NoMemory, Node, Plain, Sequence, Tag};
 use std::alloc::Global;
@@ -101,7 +101,10 @@ impl Tree {
     pub fn is_atomic(&self, state: u32) -> bool
         ensures { result ≡ is_atomic self.now state }
     {
-        !any_leads_on(self.path_of(state), self.paths())
+        match node_at(&self.chart().root, self.path_of(state)) {
+            Some(node) => is_atomic_element(node),
+            None => false,
+        }
     }
 
     /// The state of an id, if there is one.
@@ -155,10 +158,28 @@ fn numbers_above(alloc: Global, paths: &[Path], own: &[usize]) -> Result<Vec<u32
     Ok(above)
 }
 
-fn any_leads_on(own: &[usize], paths: &[Path]) -> bool
-    ensures { result ≡ list_any (λ path. leads_on own.now path) paths.now }
+fn is_proper_state(tag: Tag) -> bool
+    ensures { result ≡ is_proper_state tag }
 {
-    paths.iter().any(|path| leads_on(own, path.slice()))
+    matches!(tag, Tag::State | Tag::Parallel | Tag::Final)
+}
+
+/// Whether an element has child states. Histories are none.
+pub fn has_states(node: &Node) -> bool
+    ensures { result ≡ has_states node.now }
+{
+    node.kids.slice().iter().any(|kid| is_proper_state(kid.tag))
+}
+
+/// Whether an element is a state without child states, or a final.
+pub fn is_atomic_element(node: &Node) -> bool
+    ensures { result ≡ is_atomic_element node.now (tag_of node.now) }
+{
+    match node.tag {
+        Tag::State => !has_states(node),
+        Tag::Final => true,
+        _ => false,
+    }
 }
 
 fn add_own_path(
@@ -169,10 +190,10 @@ fn add_own_path(
 ) -> Result<(), NoMemory>
     ensures { OnOk result (out.new ≡ out.old ++ own_path tag path.now) }
 {
-    match tag {
-        Tag::State => out.push(path.copy(alloc)?),
-        _ => Ok(()),
+    if !tag.is_state() {
+        return Ok(());
     }
+    out.push(path.copy(alloc)?)
 }
 
 #[cycle(paths)]
@@ -193,7 +214,8 @@ fn add_paths(
     Ok(())
 }
 
-fn node_at<'a>(node: &'a Node, path: &[usize]) -> Option<&'a Node>
+/// The element that a path leads to, where it leads to one.
+pub fn node_at<'a>(node: &'a Node, path: &[usize]) -> Option<&'a Node>
     ensures { option_copied result ≡ node_at node.now path.now }
 {
     let mut node = node;
@@ -203,13 +225,15 @@ fn node_at<'a>(node: &'a Node, path: &[usize]) -> Option<&'a Node>
     Some(node)
 }
 
-fn leads_on(above: &[usize], path: &[usize]) -> bool
+/// Whether a path leads on from another.
+pub fn leads_on(above: &[usize], path: &[usize]) -> bool
     ensures { result ≡ leads_on above.now path.now }
 {
     above.len() < path.len() && path.starts_with(above)
 }
 
-pub(crate) fn member<'a>(name: &[u8], node: &'a Node) -> Option<&'a Member>
+/// The attribute of a name.
+pub fn member<'a>(name: &[u8], node: &'a Node) -> Option<&'a Member>
     ensures { option_copied result ≡ member name.now node.now }
 {
     let found = node.members.slice().iter().find(|m| m.0.slice() == name)?;

@@ -358,10 +358,10 @@ fn outcome(printed: &[u8]) -> &'static str {
     }
 }
 
-/// The text that is put together so: each piece as often as the number before it says.
-fn large(alloc: Global, recipe: &str) -> Result<Vec<u8>, Fail> {
+/// The text that is put together so: each piece as often as the number before it says, else once.
+pub(crate) fn large(alloc: Global, recipe: &str) -> Result<Vec<u8>, Fail> {
     let mut text = Vec::new(alloc);
-    let mut times = 0;
+    let mut times = 1;
     for word in recipe.split_whitespace() {
         match word.parse::<u32>() {
             Ok(number) => times = number,
@@ -369,6 +369,7 @@ fn large(alloc: Global, recipe: &str) -> Result<Vec<u8>, Fail> {
                 for _ in 0..times {
                     text.extend_from_slice(word.as_bytes())?;
                 }
+                times = 1;
             }
         }
     }

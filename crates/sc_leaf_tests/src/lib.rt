@@ -2,11 +2,17 @@
 #![tactic(auto)]
 
 #[cfg(test)]
+mod chart_limits;
+#[cfg(test)]
+mod charts;
+#[cfg(test)]
 mod expressions;
 #[cfg(test)]
 mod family;
 #[cfg(test)]
 mod frame;
+#[cfg(test)]
+mod legality;
 #[cfg(test)]
 mod names;
 #[cfg(test)]

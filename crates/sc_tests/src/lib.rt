@@ -3,9 +3,13 @@
 #![tactic(auto)]
 
 #[cfg(test)]
+mod checks;
+#[cfg(test)]
 mod devices;
 #[cfg(test)]
 mod faults;
+#[cfg(test)]
+mod first_form;
 #[cfg(test)]
 mod names;
 #[cfg(test)]

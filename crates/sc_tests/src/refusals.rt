@@ -13,6 +13,9 @@ fn other_words_are_no_command(rt: HostRuntime) -> Result<(), Fail> {
         "run --workers 1",
         "--workers 0 run",
         "run --workers 0 0",
+        "check x",
+        "checks",
+        "check --workers 0",
     ] {
         let outcome = call(rt.alloc(), line, ONE_LOG.as_bytes())?;
         assert_eq!(rt; outcome.status, 1, "{line}");

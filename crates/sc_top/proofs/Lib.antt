@@ -1,9 +1,7 @@
-pub mod Charts
 pub mod Cuts
 pub mod Forms
 pub mod HostLemmas
 pub mod Lines
-pub mod Members
 pub mod Names
 pub mod Places
 pub mod Posts
@@ -12,3 +10,4 @@ pub mod ReportLemmas
 pub mod Runs
 pub mod Sayings
 pub mod Scripts
+pub mod StateCounts

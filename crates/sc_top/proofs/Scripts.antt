@@ -32,3 +32,9 @@ three_items (x ∷ []) a b c n p q r = absurd (omega arith)
 three_items (x ∷ y ∷ []) a b c n p q r = absurd (omega arith)
 three_items (x ∷ y ∷ z ∷ []) a b c n p q r = cc
 three_items (x ∷ y ∷ z ∷ w ∷ ws) a b c n p q r = absurd (omega arith)
+
+-- a list of one
+pub one_item : {X : Type 0} (xs : List X) (a : X) → length xs ≡ 1 → a ≡ get_or xs 0 a → xs ≡ a ∷ []
+one_item [] a n p = absurd (omega arith)
+one_item (x ∷ []) a n p = cc
+one_item (x ∷ y ∷ xs) a n p = absurd (omega arith)

@@ -3,7 +3,7 @@ ghost use Rattle.std.specs.Option.{option_copied};
 ghost use Rattle.sc_law.specs.Host.{empty_host, has_chart, chart_place, chart_named, bare_chart, session_place, session_named, not_read, fresh_state, fresh_session, has_slash, pairs_data, posted_event, waiting_cue, cue_of, name_of, queue_left, queue_of_phase, ready};
 ghost use Rattle.sc_law.specs.Turn.{turn};
 
-use crate::chart_reader::read_flat_chart;
+use crate::flat::read_flat_chart;
 use sc_law::{Tree, TurnResult, turn};
 use sc_types::{
     Bytes, Chart, ChartFault, ChartImage, Command, Cue, CueName, Data, Delivery, Event, HostImage,

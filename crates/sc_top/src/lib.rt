@@ -1,11 +1,14 @@
-//! The host as a program: reads a script, runs it, and writes the report.
+//! The host as a program: reads a script, runs it, and writes the report; or reads a chart, and says whether it is
+//! one.
 #![tactic(auto)]
 
-mod chart_reader;
+mod check;
+mod flat;
 mod host;
 mod program;
 mod report;
 mod run;
+mod saying;
 mod script_reader;
 
 pub use program::top;

@@ -5,38 +5,39 @@ ghost use Rattle.sc_law.specs.Report.{report};
 ghost use Rattle.sc_dev.specs.Causes.{Rose};
 ghost use Rattle.sc_dev.specs.Transfer.{AppendsPart, ConsumesUpTo};
 ghost use Rattle.sc_top.specs.FirstForm.{IsFirstForm};
-ghost use Rattle.sc_top.specs.Promise.{IsRunWords, Reports, Says, Output};
+ghost use Rattle.sc_top.specs.Promise.{IsRunWords, IsCheckWords, Reports, Says, Output};
+ghost use Rattle.sc_top.specs.Sayings.{status_of, text_of, SaysOfScript};
 
+use crate::check::check_text;
 use crate::report::report_of;
 use crate::run::run_script;
+use crate::saying::Saying;
 use crate::script_reader::{ScriptRefusal, read_script};
 use sc_dev::{ReadFault, Sink, Source, read_up_to, write_all};
 use sc_types::{Command, NoMemory};
 use std::alloc::Global;
 
-/// The statuses of the program.
-const DONE: u8 = 0;
-
-const OTHER_WORDS: u8 = 1;
-
-const READ_FAULT: u8 = 4;
-
+/// The statuses that say nothing of their own.
 const WRITE_FAULT: u8 = 5;
 
 const OUT_OF_MEMORY: u8 = 7;
 
-const NO_SCRIPT: u8 = 12;
-
 /// The most bytes that a script may have.
 const SCRIPT_LIMIT: usize = 65_536;
+
+/// The most bytes that a chart may have.
+const CHART_LIMIT: usize = 1_048_576;
 
 /// The most steps that a run may take.
 const STEP_BUDGET: u64 = 1_000_000;
 
-/// Runs the program with the words after its name, and answers its exit status. The words are
-/// `run --workers 0`; the source has the script, and the sink takes the report, or the line that names the
-/// status: 1 `words`, 4 `read`, 12 `not-built` where the text is no script of the first form. After 5, the sink
-/// failed and has taken a front of what was to be written; after 7 memory was wanting and nothing was written.
+/// Runs the program with the words after its name, and answers its exit status.
+///
+/// With the words `run --workers 0` the source has a script, and the sink takes the report of its run. With the
+/// word `check` the source has a chart, and the sink takes `ok` and the number of its states, or, with the status
+/// 3, `chart` and its first fault. Else the sink takes the line that names the status: 1 `words`, 4 `read`,
+/// 12 `not-built` where the text is no script of the first form. After 5, the sink failed and has taken a front of
+/// what was to be written; after 7 memory was wanting and nothing was written.
 pub fn top<S: Source, K: Sink>(alloc: Global, words: &[String], source: &mut S, sink: &mut K) -> u8
     ensures said { result ≢ 5 → result ≢ 7 → (text : List ℕ)
         × Says (map string_bytes words.now) (S.left source.old) (Rose (S.faults source.old) (S.faults source.new)) result text
@@ -46,20 +47,49 @@ pub fn top<S: Source, K: Sink>(alloc: Global, words: &[String], source: &mut S, 
         × AppendsPart (K.taken sink.old) (K.taken sink.new) text }
     ensures write { result ≡ 5 → Rose (K.faults sink.old) (K.faults sink.new) }
     ensures none { result ≡ 7 → Keeps (K.taken sink.old) (K.taken sink.new) }
+    ensures few { ConsumesUpTo 1048577 (S.left source.old) (S.left source.new) }
+    ensures few_but_of_check { ¬ IsCheckWords (map string_bytes words.now) → ConsumesUpTo 65537 (S.left source.old) (S.left source.new) }
+{
+    match saying_of(alloc, words, source) {
+        Ok(saying) => say(sink, saying.text(), saying.status()),
+        Err(NoMemory) => OUT_OF_MEMORY,
+    }
+}
+
+/// What there is to say of these words.
+fn saying_of<S: Source>(alloc: Global, words: &[String], source: &mut S) -> Result<Saying, NoMemory>
+    ensures says { IfOk result (λ s. Says (map string_bytes words.now) (S.left source.old) (Rose (S.faults source.old) (S.faults source.new)) (status_of s) (text_of s)) }
+    ensures few { ConsumesUpTo 1048577 (S.left source.old) (S.left source.new) }
+    ensures few_but_of_check { ¬ IsCheckWords (map string_bytes words.now) → ConsumesUpTo 65537 (S.left source.old) (S.left source.new) }
+{
+    if is_run(words) {
+        return run(alloc, source);
+    }
+    if is_check(words) {
+        return check(alloc, source);
+    }
+    Ok(Saying::OtherWords)
+}
+
+fn run<S: Source>(alloc: Global, source: &mut S) -> Result<Saying, NoMemory>
+    ensures says { IfOk result (λ s. (words : List (List ℕ)) → IsRunWords words → Says words (S.left source.old) (Rose (S.faults source.old) (S.faults source.new)) (status_of s) (text_of s)) }
     ensures few { ConsumesUpTo 65537 (S.left source.old) (S.left source.new) }
 {
-    if !is_run(words) {
-        return say(sink, b"words\n", OTHER_WORDS);
+    match read_up_to(alloc, source, SCRIPT_LIMIT) {
+        Ok(text) => run_text(alloc, text.as_slice()),
+        Err(ReadFault::Failed) => Ok(Saying::ReadFault),
+        Err(ReadFault::NoMemory) => Err(NoMemory),
     }
-    let text = match read_up_to(alloc, source, SCRIPT_LIMIT) {
-        Ok(text) => text,
-        Err(ReadFault::Failed) => return say(sink, b"read\n", READ_FAULT),
-        Err(ReadFault::NoMemory) => return OUT_OF_MEMORY,
-    };
-    match outcome_of(alloc, text.as_slice()) {
-        Ok(Some(report)) => say(sink, report.as_slice(), DONE),
-        Ok(None) => say(sink, b"not-built\n", NO_SCRIPT),
-        Err(NoMemory) => OUT_OF_MEMORY,
+}
+
+fn check<S: Source>(alloc: Global, source: &mut S) -> Result<Saying, NoMemory>
+    ensures says { IfOk result (λ s. (words : List (List ℕ)) → IsCheckWords words → Says words (S.left source.old) (Rose (S.faults source.old) (S.faults source.new)) (status_of s) (text_of s)) }
+    ensures few { ConsumesUpTo 1048577 (S.left source.old) (S.left source.new) }
+{
+    match read_up_to(alloc, source, CHART_LIMIT) {
+        Ok(text) => check_text(alloc, text.as_slice()),
+        Err(ReadFault::Failed) => Ok(Saying::ReadFault),
+        Err(ReadFault::NoMemory) => Err(NoMemory),
     }
 }
 
@@ -73,6 +103,15 @@ fn is_run(words: &[String]) -> bool
             }
             number.as_str() == "0"
         }
+        _ => false,
+    }
+}
+
+fn is_check(words: &[String]) -> bool
+    ensures { IsTrue result ↔ IsCheckWords (map string_bytes words.now) }
+{
+    match words {
+        [word] => word.as_str() == "check",
         _ => false,
     }
 }
@@ -91,14 +130,13 @@ fn say<K: Sink>(sink: &mut K, text: &[u8], status: u8) -> u8
     }
 }
 
-/// The report of a script's run; `None` where the text is no script.
-fn outcome_of(alloc: Global, text: &[u8]) -> Result<Option<Vec<u8>>, NoMemory>
-    ensures report { IfOk result (λ o. IfSome o (λ v. Reports text.now v.items)) }
-    ensures none { result ≡ Ok None → (cs : List Command) → IsFirstForm text.now cs → ⊥ }
+/// The report of a script's run, where the text is a script.
+fn run_text(alloc: Global, text: &[u8]) -> Result<Saying, NoMemory>
+    ensures { IfOk result (λ s. SaysOfScript text.now (status_of s) (text_of s)) }
 {
     match read_script(alloc, text) {
-        Ok(commands) => Ok(Some(report_run(alloc, text, commands.slice())?)),
-        Err(ScriptRefusal::NotFirstForm) => Ok(None),
+        Ok(commands) => Ok(Saying::Done(report_run(alloc, text, commands.slice())?)),
+        Err(ScriptRefusal::NotFirstForm) => Ok(Saying::NoScript),
         Err(ScriptRefusal::NoMemory) => Err(NoMemory),
     }
 }

@@ -4,8 +4,8 @@ ghost use Rattle.sc_law.specs.Report.{report};
 ghost use Rattle.sc_top.specs.Held.{IsHeld};
 
 mod entries;
-mod lines;
-mod replies;
+pub(crate) mod lines;
+pub(crate) mod replies;
 mod sessions;
 
 use crate::host::Host;

@@ -5,7 +5,7 @@ ghost use Rattle.sc_types.specs.declared.command.Command.{Command};
 ghost use Rattle.sc_top.specs.FirstForm.{lacks, IsShortName, IsChartText, post_of, IsFirstForm};
 ghost use Rattle.sc_top.specs.ScriptLines.{IsCut, IsChartLine, IsStartLine, IsPostLine, IsPosts};
 
-use crate::chart_reader::read_flat_chart;
+use crate::flat::read_flat_chart;
 use sc_types::{Bytes, Command, NoMemory, Plain, Sequence, Unfit, Word, is_plain_name};
 use std::alloc::Global;
 

@@ -1,5 +1,5 @@
 -- Expressions and the texts that spell them. SCXML 5.9 leaves the language to the data model: this host's own rule.
-use Rattle.std.specs.Prelude.{ℕ, suc, ◌-◌, ◌==◌, ◌≤◌, if◌then◌else◌, max, Bool, true, false, not, ◌&&◌, List, [], ◌∷◌, ◌++◌, ℤ, pos, negsuc, codes, IsTrue}
+use Rattle.std.specs.Prelude.{ℕ, suc, ◌-◌, ◌==◌, ◌≤◌, if◌then◌else◌, max, Bool, true, false, not, ◌&&◌, List, [], ◌∷◌, ◌++◌, ℤ, pos, negsuc, codes, IsTrue, Option, MatchOption}
 use Rattle.std.specs.List.{list_all}
 use Rattle.std.specs.Fmt.{signed_decimal}
 use Rattle.std.specs.Str.{bytes_eq}
@@ -186,3 +186,7 @@ mutual
 pub record IsExpression (text : List ℕ) (e : Expr) : Type 0 where
   pub spelled : Spells 256 6 e (tokens false text)
   pub shallow : depth e ≤ 256
+
+-- how the texts of expressions are read: each gives the one expression that it spells, and nothing where it spells none
+abbrev pub IsReading : (List ℕ → Option Expr) → Type 0
+IsReading code_of = (text : List ℕ) → MatchOption (code_of text) ((e : Expr) → ¬ IsExpression text e) (IsExpression text)

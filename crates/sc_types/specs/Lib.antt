@@ -1,7 +1,10 @@
+pub mod ChartTexts
 pub mod Delays
 pub mod Descriptors
+pub mod Elements
 pub mod Expressions
 pub mod FlatChart
+pub mod PrintedCharts
 pub mod Text
 pub mod Tokens
 pub mod Values

@@ -17,6 +17,13 @@ pub record IsWord (text : List ℕ) : Type 0 where
   pub name : IsName text
   pub no_hash : IsTrue (list_all (λ b. not (b == 35)) text)
 
+-- `IsName` and `IsWord` as tests
+abbrev pub is_name : List ℕ → Bool
+is_name text = nat_lt 0 (length text) && list_all is_name_byte text && is_utf8 text
+
+abbrev pub is_word : List ℕ → Bool
+is_word text = is_name text && list_all (λ b. not (b == 35)) text
+
 abbrev pub is_letter : ℕ → Bool
 is_letter b = (nat_le 65 b && nat_le b 90) || (nat_le 97 b && nat_le b 122) || b == 95
 

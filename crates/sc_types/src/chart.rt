@@ -1,4 +1,6 @@
-ghost use Rattle.std.specs.Prelude.{◌≡◌, ◌↔◌, IsTrue, IfOk};
+ghost use Rattle.std.specs.Prelude.{◌≡◌, ◌↔◌, IsTrue, IfOk, find};
+ghost use Rattle.std.specs.Str.{bytes_eq};
+ghost use Rattle.sc_types.specs.Elements.{tag_text, tag_of, is_state};
 
 use crate::expr::Expr;
 use crate::memory::NoMemory;
@@ -34,6 +36,95 @@ pub enum Tag {
     Assign,
     Send,
     Cancel,
+}
+
+/// All tags.
+pub const TAGS: [Tag; 25] = [
+    Tag::Scxml,
+    Tag::State,
+    Tag::Parallel,
+    Tag::Final,
+    Tag::History,
+    Tag::Initial,
+    Tag::Transition,
+    Tag::OnEntry,
+    Tag::OnExit,
+    Tag::Finalize,
+    Tag::DataModel,
+    Tag::DataItem,
+    Tag::DoneData,
+    Tag::Content,
+    Tag::Param,
+    Tag::Invoke,
+    Tag::Raise,
+    Tag::If,
+    Tag::ElseIf,
+    Tag::Else,
+    Tag::ForEach,
+    Tag::Log,
+    Tag::Assign,
+    Tag::Send,
+    Tag::Cancel,
+];
+
+impl Tag {
+    /// The name of the element.
+    pub fn text(self) -> &'static str
+        ensures { result.now ≡ tag_text self }
+    {
+        match self {
+            Tag::Scxml => "scxml",
+            Tag::State => "state",
+            Tag::Parallel => "parallel",
+            Tag::Final => "final",
+            Tag::History => "history",
+            Tag::Initial => "initial",
+            Tag::Transition => "transition",
+            Tag::OnEntry => "onentry",
+            Tag::OnExit => "onexit",
+            Tag::Finalize => "finalize",
+            Tag::DataModel => "datamodel",
+            Tag::DataItem => "data",
+            Tag::DoneData => "donedata",
+            Tag::Content => "content",
+            Tag::Param => "param",
+            Tag::Invoke => "invoke",
+            Tag::Raise => "raise",
+            Tag::If => "if",
+            Tag::ElseIf => "elseif",
+            Tag::Else => "else",
+            Tag::ForEach => "foreach",
+            Tag::Log => "log",
+            Tag::Assign => "assign",
+            Tag::Send => "send",
+            Tag::Cancel => "cancel",
+        }
+    }
+
+    /// The element of this name.
+    pub fn of(text: &[u8]) -> Option<Tag>
+        ensures { result ≡ tag_of text.now }
+    {
+        tag_named(&TAGS, text)
+    }
+
+    /// Whether elements of this tag are counted and numbered as states.
+    pub fn is_state(self) -> bool
+        ensures { result ≡ is_state self }
+    {
+        matches!(self, Tag::State | Tag::Parallel | Tag::Final | Tag::History)
+    }
+}
+
+fn tag_named(tags: &[Tag], text: &[u8]) -> Option<Tag>
+    ensures { result ≡ find (λ t. bytes_eq (tag_text t) text.now) tags.now }
+{
+    for tag in tags {
+        if tag.text().as_bytes() == text {
+            return Some(*tag);
+        }
+    }
+    None
 }
 
 /// The value of an attribute of an element.

@@ -4,6 +4,7 @@
 //! these types equals what it copies.
 #![tactic(auto)]
 
+mod attribute;
 mod boxed;
 mod chart;
 mod command;
@@ -19,6 +20,7 @@ mod text;
 mod token;
 mod value;
 
+pub use attribute::{Attribute, Form};
 pub use boxed::Boxed;
 pub use chart::{Chart, ChartFault, ChartRefusal, Member, Node, Tag};
 pub use command::{Command, Refusal, Reply};
@@ -30,6 +32,6 @@ pub use memory::NoMemory;
 pub use plain::Plain;
 pub use sequence::{Bytes, Sequence};
 pub use session::{Cue, CueName, How, Invoked, Phase, SessionState};
-pub use text::{Name, PlainName, Unfit, Word, is_plain_name, is_text};
+pub use text::{Name, PlainName, Unfit, Word, is_plain_name, is_text, is_word};
 pub use token::{Mark, Token};
 pub use value::{PairList, Value};

@@ -1,7 +1,7 @@
 ghost use Rattle.std.specs.Prelude.{◌≡◌, ◌↔◌, ◌==◌, ◌||◌, not, IsTrue, IfOk};
 ghost use Rattle.std.specs.List.{list_all};
-ghost use Rattle.std.specs.Str.{is_utf8};
-ghost use Rattle.sc_types.specs.Text.{is_name_byte, is_letter, is_digit, is_keyword, starts_with_letter, is_plain_name, is_text_byte, is_text, IsName, IsWord, IsPlainName};
+ghost use Rattle.std.specs.Str.{IsUtf8, is_utf8};
+ghost use Rattle.sc_types.specs.Text.{is_name_byte, is_letter, is_digit, is_keyword, starts_with_letter, is_plain_name, is_text_byte, is_text, is_name, is_word, IsName, IsWord, IsPlainName};
 
 use crate::memory::NoMemory;
 use crate::plain::Plain;
@@ -98,24 +98,18 @@ fn has_no_hash(text: &[u8]) -> bool
 }
 
 fn is_name(text: &[u8]) -> bool
-    ensures { IsTrue result ↔ IsName text.now }
+    ensures value { result ≡ is_name text.now }
+    ensures form { IsTrue result ↔ IsName text.now }
 {
-    if text.is_empty() || !has_name_bytes(text) {
-        return false;
-    }
-    match std::str::from_utf8(text) {
-        Ok(_) => true,
-        Err(_) => false,
-    }
+    !text.is_empty() && has_name_bytes(text) && is_utf8(text)
 }
 
-fn is_word(text: &[u8]) -> bool
-    ensures { IsTrue result ↔ IsWord text.now }
+/// Whether these bytes have the form of a [`Word`].
+pub fn is_word(text: &[u8]) -> bool
+    ensures value { result ≡ is_word text.now }
+    ensures form { IsTrue result ↔ IsWord text.now }
 {
-    if !is_name(text) {
-        return false;
-    }
-    has_no_hash(text)
+    is_name(text) && has_no_hash(text)
 }
 
 fn is_plain_name_byte(byte: u8) -> bool
@@ -163,7 +157,8 @@ fn is_text_byte(byte: u8) -> bool
 }
 
 fn is_utf8(text: &[u8]) -> bool
-    ensures { result ≡ is_utf8 text.now }
+    ensures value { result ≡ is_utf8 text.now }
+    ensures form { IsTrue result ↔ IsUtf8 text.now }
 {
     match std::str::from_utf8(text) {
         Ok(_) => true,

@@ -39,7 +39,11 @@ fn put_path(alloc: Global, out: &mut Vec<u8>, path: &[u32]) -> Result<(), NoMemo
     }
 }
 
-fn put_fault(alloc: Global, out: &mut Vec<u8>, fault: &ChartFault) -> Result<(), NoMemory>
+pub(crate) fn put_fault(
+    alloc: Global,
+    out: &mut Vec<u8>,
+    fault: &ChartFault,
+) -> Result<(), NoMemory>
     ensures { OnOk result (out.new.items ≡ out.old.items ++ fault_text fault.now) }
 {
     put_number(alloc, out, u128::from(fault.number))?;

@@ -7,8 +7,8 @@ not_true : (b : Bool) → ¬ (b ≡ true) → false ≡ b
 not_true true n = absurd (n refl)
 not_true false n = refl
 
-pub returns-in-Ok : goal.returns-in-Ok
-returns-in-Ok c = sym (is_utf8-from_IsUtf8 _ (search rules))
+pub returns-in-Ok-clause-value : goal.returns-in-Ok-clause-value
+returns-in-Ok-clause-value c = sym (is_utf8-from_IsUtf8 _ (search rules))
 
-pub returns-in-Err : goal.returns-in-Err
-returns-in-Err c = not_true _ λ e. let u = IsUtf8-from_is_utf8 _ e in search (rules, u)
+pub returns-in-Err-clause-value : goal.returns-in-Err-clause-value
+returns-in-Err-clause-value c = not_true _ λ e. let u = IsUtf8-from_is_utf8 _ e in search (rules, u)

@@ -1,0 +1,9 @@
+pub mod Depths
+pub mod Elements
+pub mod Forms
+pub mod Objects
+pub mod ReadBack
+pub mod Tables
+pub mod Trees
+pub mod Words
+pub mod Writing

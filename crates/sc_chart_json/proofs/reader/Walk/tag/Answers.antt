@@ -1,0 +1,6 @@
+use Rattle.std.proofs.Common.{rules}
+use Rattle.sc_chart_json.proofs.Faults.{too_deep}
+use Rattle.sc_chart_json.proofs.reader.Walk.tag.Goals as goal
+
+pub returns-then-len-ge-LEVEL_LIMIT-clause-fault : goal.returns-then-len-ge-LEVEL_LIMIT-clause-fault
+returns-then-len-ge-LEVEL_LIMIT-clause-fault c f e before = too_deep before _ _ c.in-Some.name.now f (search rules) (search rules) (search rules)

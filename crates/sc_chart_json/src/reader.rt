@@ -1,0 +1,243 @@
+ghost use Rattle.std.specs.Prelude.{◌≡◌, ◌<◌, ◌≤◌, ◌+◌, ◌-◌, ℕ, [], ◌∷◌, Option, None, Some, Ok, Err, IfOk, OnOk, length, if◌then◌else◌};
+ghost use Rattle.std.specs.Option.{option_map_or};
+ghost use Rattle.sc_types.specs.Elements.{is_state, attribute_text};
+ghost use Rattle.serde_json.specs.View.{view, items_view};
+ghost use Rattle.sc_types.specs.ChartTexts.{chart_of, fault, own_fault, many_fault, bad_code, tag_at, kid_places, places, value_fault, value_chart, members_at};
+ghost use Rattle.sc_types.specs.declared.chart.ChartFault.{ChartFault};
+ghost use Rattle.sc_expr.specs.Reading.{expr_of};
+ghost use Rattle.sc_chart_json.specs.Walking.{place, Stops, levels_at, IsOwn, IsRead, AreRead};
+
+use crate::members::{Unread, has_fit_members, has_known_members, kids_at, read_members, text_at};
+use sc_types::{
+    Attribute, Bytes, Chart, ChartFault, ChartRefusal, Member, NoMemory, Node, Plain, Sequence, Tag,
+};
+use serde_json::{Category, Value};
+use std::alloc::Global;
+
+/// The most bytes that a chart's text may have.
+const TEXT_LIMIT: usize = 1_048_576;
+
+/// The most levels that a chart may have.
+const LEVEL_LIMIT: usize = 40;
+
+/// The most states that a chart may have, with its histories.
+const STATE_LIMIT: u32 = 4096;
+
+const NOT_JSON: u8 = 1;
+
+const NOT_ELEMENT: u8 = 2;
+
+const UNKNOWN_TAG: u8 = 3;
+
+const UNKNOWN_MEMBER: u8 = 4;
+
+const BAD_MEMBER: u8 = 5;
+
+const BAD_EXPR: u8 = 6;
+
+const TOO_DEEP: u8 = 7;
+
+const TOO_MANY: u8 = 8;
+
+const TOO_LARGE: u8 = 9;
+
+/// The chart that a text spells, or its first fault.
+#[tactic(auto, using(crate::proofs::Wholes::wholes))]
+pub fn read_chart(alloc: Global, text: &[u8]) -> Result<Chart, ChartRefusal>
+    ensures chart { IfOk result (λ c. chart_of expr_of text.now ≡ Ok c) }
+    ensures fault { (f : ChartFault) → result ≡ Err (ChartRefusal.Fault f) → chart_of expr_of text.now ≡ Err f }
+{
+    if text.len() > TEXT_LIMIT {
+        return Err(fault(alloc, TOO_LARGE));
+    }
+    match Value::from_slice(alloc, text) {
+        Ok(value) => read_root(alloc, &value),
+        Err(error) => match error.classify() {
+            Category::Memory => Err(ChartRefusal::NoMemory),
+            _ => Err(fault(alloc, NOT_JSON)),
+        },
+    }
+}
+
+/// A fault of a text as a whole.
+fn fault(alloc: Global, number: u8) -> ChartRefusal
+    ensures { result ≡ ChartRefusal.Fault (fault number [] []) }
+{
+    ChartRefusal::Fault(ChartFault {
+        number,
+        path: Sequence::new(alloc),
+        member: Sequence::new(alloc),
+    })
+}
+
+#[tactic(auto, using(crate::proofs::Walks::walks))]
+fn read_root(alloc: Global, value: &Value) -> Result<Chart, ChartRefusal>
+    ensures chart { IfOk result (λ c. (value_fault expr_of (view value.now) ≡ None) × (c ≡ value_chart expr_of (view value.now))) }
+    ensures fault { (f : ChartFault) → result ≡ Err (ChartRefusal.Fault f) → value_fault expr_of (view value.now) ≡ Some f }
+{
+    let mut walk = Walk {
+        path: Sequence::new(alloc),
+        states: 0,
+    };
+    Ok(Chart {
+        root: read_element(alloc, &mut walk, value)?,
+    })
+}
+
+/// Where a reader stands in the tree, and how many states it has met.
+#[derive(Debug, Drop)]
+struct Walk {
+    path: Sequence<u32>,
+    states: u32,
+}
+
+/// What an element is without its child elements.
+#[derive(Debug, Drop)]
+struct Own {
+    tag: Tag,
+    members: Sequence<(Bytes, Member)>,
+}
+
+impl Walk {
+    /// A fault of the element that the reader stands at.
+    fn fault(&self, alloc: Global, number: u8) -> ChartRefusal
+        ensures { (f : ChartFault) → result ≡ ChartRefusal.Fault f → fault number self.now.path [] ≡ f }
+    {
+        self.fault_of(alloc, number, b"")
+    }
+
+    fn fault_of(&self, alloc: Global, number: u8, member: &[u8]) -> ChartRefusal
+        ensures { (f : ChartFault) → result ≡ ChartRefusal.Fault f → fault number self.now.path member.now ≡ f }
+    {
+        match self.made_fault(alloc, number, member) {
+            Ok(fault) => ChartRefusal::Fault(fault),
+            Err(NoMemory) => ChartRefusal::NoMemory,
+        }
+    }
+
+    fn made_fault(&self, alloc: Global, number: u8, member: &[u8]) -> Result<ChartFault, NoMemory>
+        ensures { IfOk result (λ f. f ≡ fault number self.now.path member.now) }
+    {
+        Ok(ChartFault {
+            number,
+            path: self.path.copy(alloc)?,
+            member: Sequence::from_slice(alloc, member)?,
+        })
+    }
+
+    /// Reads an element without its child elements.
+    #[tactic(auto, using(crate::proofs::Faults::own_faults))]
+    fn own(&mut self, alloc: Global, value: &Value) -> Result<Own, ChartRefusal>
+        requires { self.old.states ≤ 4096 }
+        ensures ok { IfOk result (IsOwn self.old self.new (view value.now)) }
+        ensures fault { (f : ChartFault) → result ≡ Err (ChartRefusal.Fault f) → own_fault expr_of self.old.states (place self.old.path (view value.now)) ≡ Some f }
+    {
+        let tag = self.tag(alloc, value)?;
+        if !has_known_members(tag, value) {
+            return Err(self.fault(alloc, UNKNOWN_MEMBER));
+        }
+        if !has_fit_members(alloc, tag, value)? {
+            return Err(self.fault(alloc, BAD_MEMBER));
+        }
+        let members = self.members(alloc, tag, value)?;
+        self.count(alloc, tag)?;
+        Ok(Own { tag, members })
+    }
+
+    #[tactic(auto, using(crate::proofs::Faults::tag_faults))]
+    fn tag(&self, alloc: Global, value: &Value) -> Result<Tag, ChartRefusal>
+        ensures ok { IfOk result (λ t. (tag_at (view value.now) ≡ Some t) × (length self.now.path < 40)) }
+        ensures fault { (f : ChartFault) → result ≡ Err (ChartRefusal.Fault f) → (before : ℕ) → own_fault expr_of before (place self.now.path (view value.now)) ≡ Some f }
+    {
+        let Some(name) = text_at(value, "tag") else {
+            return Err(self.fault(alloc, NOT_ELEMENT));
+        };
+        if self.path.len() >= LEVEL_LIMIT {
+            return Err(self.fault(alloc, TOO_DEEP));
+        }
+        match Tag::of(name) {
+            Some(tag) => Ok(tag),
+            None => Err(self.fault(alloc, UNKNOWN_TAG)),
+        }
+    }
+
+    fn members(
+        &self,
+        alloc: Global,
+        tag: Tag,
+        value: &Value,
+    ) -> Result<Sequence<(Bytes, Member)>, ChartRefusal>
+        ensures ok { IfOk result (λ ms. (bad_code expr_of tag (view value.now) ≡ None) × (ms ≡ members_at expr_of tag (view value.now))) }
+        ensures fault { (f : ChartFault) → result ≡ Err (ChartRefusal.Fault f) → (later : Option ChartFault) → option_map_or (λ a. Some (fault 6 self.now.path (attribute_text a))) (bad_code expr_of tag (view value.now)) later ≡ Some f }
+    {
+        match read_members(alloc, tag, value) {
+            Ok(members) => Ok(members),
+            Err(Unread::BadCode(attribute)) => {
+                Err(self.fault_of(alloc, BAD_EXPR, attribute.text().as_bytes()))
+            }
+            Err(Unread::NoMemory) => Err(ChartRefusal::NoMemory),
+        }
+    }
+
+    /// Counts the element where it is a state.
+    fn count(&mut self, alloc: Global, tag: Tag) -> Result<(), ChartRefusal>
+        requires { self.old.states ≤ 4096 }
+        ensures none { OnOk result (many_fault self.old.states self.old.path tag ≡ None) }
+        ensures states { OnOk result (self.new.states ≡ self.old.states + (if is_state tag then 1 else 0)) }
+        ensures few { OnOk result (self.new.states ≤ 4096) }
+        ensures path { OnOk result (self.new.path ≡ self.old.path) }
+        ensures fault { (f : ChartFault) → result ≡ Err (ChartRefusal.Fault f) → many_fault self.old.states self.old.path tag ≡ Some f }
+    {
+        if !tag.is_state() {
+            return Ok(());
+        }
+        if self.states >= STATE_LIMIT {
+            return Err(self.fault(alloc, TOO_MANY));
+        }
+        self.states += 1;
+        Ok(())
+    }
+}
+
+#[cycle(element)]
+#[tactic(auto, using(crate::proofs::Walks::walks))]
+fn read_element(alloc: Global, walk: &mut Walk, value: &Value) -> Result<Node, ChartRefusal>
+    requires few { walk.old.states ≤ 4096 }
+    requires shallow { length walk.old.path ≤ 40 }
+    ensures ok { IfOk result (IsRead walk.old walk.new (view value.now)) }
+    ensures fault { (f : ChartFault) → result ≡ Err (ChartRefusal.Fault f) → Stops walk.old.states (places (levels_at walk.old.path) walk.old.path (view value.now)) f }
+{
+    let own = walk.own(alloc, value)?;
+    Ok(Node {
+        tag: own.tag,
+        members: own.members,
+        kids: read_kids(alloc, walk, kids_at(value))?,
+    })
+}
+
+#[cycle(element)]
+#[tactic(auto, using(crate::proofs::Walks::walks))]
+fn read_kids(
+    alloc: Global,
+    walk: &mut Walk,
+    values: &[Value],
+) -> Result<Sequence<Node>, ChartRefusal>
+    requires few { walk.old.states ≤ 4096 }
+    requires shallow { length walk.old.path < 40 }
+    ensures ok { IfOk result (AreRead walk.old walk.new (items_view values.now)) }
+    ensures fault { (f : ChartFault) → result ≡ Err (ChartRefusal.Fault f) → Stops walk.old.states (kid_places (places (40 - length walk.old.path)) walk.old.path 0 (items_view values.now)) f }
+{
+    let mut kids = Sequence::new(alloc);
+    let mut place: u32 = 0;
+    for value in values {
+        walk.path.push(place)?;
+        kids.push(read_element(alloc, walk, value)?)?;
+        walk.path.pop();
+        // A text of the greatest size has far fewer elements than 32 bits count.
+        let Some(next) = place.checked_add(1) else {
+            return Err(ChartRefusal::NoMemory);
+        };
+        place = next;
+    }
+    Ok(kids)
+}

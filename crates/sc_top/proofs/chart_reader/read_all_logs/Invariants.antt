@@ -1,7 +1,0 @@
-use Rattle.std.proofs.Common.{◌≡◌, ◌++◌, drop, option_map}
-use Rattle.serde_json.specs.View.{items_view}
-use Rattle.sc_types.specs.FlatChart.{all_of, log_of}
-use Rattle.sc_top.proofs.chart_reader.read_all_logs.Given as goal
-
-abbrev pub invariant-loop-item : goal.invariant-loop-item
-invariant-loop-item l = option_map (λ more. l.logs ++ more) (all_of log_of (items_view (drop l.item-index l.items))) ≡ all_of log_of (items_view l.items)

@@ -1,0 +1,85 @@
+ghost use Rattle.std.specs.Prelude.{◌≡◌, ◌+◌, ◌++◌, Ok, Err, IfOk, OnOk, if◌then◌else◌, decimal, codes};
+ghost use Rattle.sc_types.specs.declared.chart.ChartFault.{ChartFault};
+ghost use Rattle.sc_types.specs.ChartTexts.{states_in, count_states};
+ghost use Rattle.sc_types.specs.Elements.{is_state};
+ghost use Rattle.sc_law.specs.LegalCharts.{legal_chart_of};
+ghost use Rattle.sc_law.specs.Lines.{line};
+ghost use Rattle.sc_law.specs.Report.{fault_text};
+ghost use Rattle.sc_top.specs.Sayings.{status_of, text_of, check_status, check_text};
+
+use crate::report::lines::{end_line, put, put_counted};
+use crate::report::replies::put_fault;
+use crate::saying::Saying;
+use sc_chart_json::read_chart;
+use sc_types::{Chart, ChartFault, ChartRefusal, NoMemory, Node, Tag};
+use sc_valid::{LegalChart, validate};
+use std::alloc::Global;
+
+/// What is said of a text that should spell a chart: how many states it has, or its first fault.
+pub(crate) fn check_text(alloc: Global, text: &[u8]) -> Result<Saying, NoMemory>
+    ensures status { IfOk result (λ s. status_of s ≡ check_status (legal_chart_of text.now)) }
+    ensures text { IfOk result (λ s. text_of s ≡ check_text (legal_chart_of text.now)) }
+{
+    match read_legal_chart(alloc, text) {
+        Ok(chart) => Ok(Saying::Done(chart_line(alloc, chart.chart())?)),
+        Err(ChartRefusal::Fault(fault)) => Ok(Saying::Faulty(fault_line(alloc, &fault)?)),
+        Err(ChartRefusal::NoMemory) => Err(NoMemory),
+    }
+}
+
+fn read_legal_chart(alloc: Global, text: &[u8]) -> Result<LegalChart, ChartRefusal>
+    ensures chart { IfOk result (λ c. legal_chart_of text.now ≡ Ok c) }
+    ensures fault { (f : ChartFault) → result ≡ Err (ChartRefusal.Fault f) → legal_chart_of text.now ≡ Err f }
+{
+    match read_chart(alloc, text) {
+        Ok(chart) => validate(alloc, chart),
+        Err(refusal) => Err(refusal),
+    }
+}
+
+fn chart_line(alloc: Global, chart: &Chart) -> Result<Vec<u8>, NoMemory>
+    ensures { IfOk result (λ v. v.items ≡ line (codes "ok " ++ decimal (count_states chart.now))) }
+{
+    let mut out = Vec::new(alloc);
+    let count = states_in(&chart.root)?;
+    put_counted(alloc, &mut out, b"ok ", u128::from(count))?;
+    Ok(out)
+}
+
+fn fault_line(alloc: Global, fault: &ChartFault) -> Result<Vec<u8>, NoMemory>
+    ensures { IfOk result (λ v. v.items ≡ line (codes "chart " ++ fault_text fault.now)) }
+{
+    let mut out = Vec::new(alloc);
+    put(&mut out, b"chart ")?;
+    put_fault(alloc, &mut out, fault)?;
+    end_line(&mut out)?;
+    Ok(out)
+}
+
+/// How many states an element and those below it are, with parallels, finals and histories.
+#[cycle(states)]
+fn states_in(node: &Node) -> Result<u64, NoMemory>
+    ensures { IfOk result (λ n. n ≡ states_in node.now) }
+{
+    let mut count = states_at(node.tag);
+    for kid in node.kids.slice() {
+        count = sum_of(count, states_in(kid)?)?;
+    }
+    Ok(count)
+}
+
+fn states_at(tag: Tag) -> u64
+    ensures { result ≡ (if is_state tag then 1 else 0) }
+{
+    if tag.is_state() { 1 } else { 0 }
+}
+
+/// The sum of two counts of states. A chart with 2^64 states is larger than any memory.
+fn sum_of(a: u64, b: u64) -> Result<u64, NoMemory>
+    ensures { IfOk result (λ n. n ≡ a + b) }
+{
+    match a.checked_add(b) {
+        Some(sum) => Ok(sum),
+        None => Err(NoMemory),
+    }
+}

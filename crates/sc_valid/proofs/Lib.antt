@@ -1,0 +1,3 @@
+pub mod Commons
+pub mod Tables
+pub mod Walks

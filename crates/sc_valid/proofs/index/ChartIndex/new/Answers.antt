@@ -1,0 +1,10 @@
+use Rattle.std.proofs.Common.{rules}
+use Rattle.sc_valid.proofs.Tables.{one_more}
+use Rattle.sc_valid.proofs.index.ChartIndex.new.Goals as goal
+
+pub loop-path-preserved : goal.loop-path-preserved
+loop-path-preserved c = record {
+  states = one_more _ _ _ _ _ _ _ _ _ c.loop-path-test.true c.path-item.is (search rules) (search rules) c.loop-path.invariant.states c.in_ok-add.ensures;
+  invokes = one_more _ _ _ _ _ _ _ _ _ c.loop-path-test.true c.path-item.is (search rules) (search rules) c.loop-path.invariant.invokes c.in_ok-add-2.ensures;
+  data_items = one_more _ _ _ _ _ _ _ _ _ c.loop-path-test.true c.path-item.is (search rules) (search rules) c.loop-path.invariant.data_items c.in_ok-add-3.ensures;
+}

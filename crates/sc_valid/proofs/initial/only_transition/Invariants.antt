@@ -1,0 +1,11 @@
+use Rattle.std.proofs.Common.{◌≡◌, ◌++◌, drop, filter, option_copied}
+use Rattle.sc_types.specs.declared.chart.Tag.TheVariants.{Transition}
+use Rattle.sc_law.specs.Tree.{tag_of}
+use Rattle.sc_law.specs.Legality.{is_tag}
+use Rattle.sc_valid.specs.Only.{listed}
+use Rattle.sc_valid.proofs.initial.only_transition.Given as goal
+
+abbrev pub invariant-loop-kid : goal.invariant-loop-kid
+invariant-loop-kid l =
+    listed (option_copied l.found) ++ filter (λ kid. is_tag Transition (tag_of kid)) (drop l.kid-index l.kids)
+    ≡ filter (λ kid. is_tag Transition (tag_of kid)) l.kids

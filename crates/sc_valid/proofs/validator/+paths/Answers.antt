@@ -1,0 +1,11 @@
+use Rattle.std.proofs.Common.{arith}
+use Rattle.std.proofs.lemmas.Grind.{common_steps}
+use Rattle.sc_valid.proofs.Walks.{elements_from_node}
+use Rattle.sc_valid.proofs.validator.+paths.Goals as goal
+
+pub returns : goal.returns
+returns t c =
+    let e = elements_from_node c.args.node.now c.args.path.now in
+    let i = c.loop-place.invariant in
+    let k = c.slice-kid-items.ensures in
+    grind (arith, common_steps)

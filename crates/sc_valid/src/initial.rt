@@ -1,0 +1,171 @@
+ghost use Rattle.std.specs.Prelude.{◌≡◌, IfOk, option_map, filter, true, not, ◌&&◌, ◌||◌};
+ghost use Rattle.std.specs.List.{list_any};
+ghost use Rattle.std.specs.Option.{option_copied, option_map_or};
+ghost use Rattle.sc_types.specs.declared.chart.Tag.TheVariants as tag_name;
+ghost use Rattle.sc_law.specs.Tree.{tag_of, is_atomic_element};
+ghost use Rattle.sc_law.specs.Legality.{is_tag, element, parent, is_default, only_default, default_ids, is_bad_member, are_bad_defaults, is_bad_element, is_bad_initial, is_bad_recorded, are_bad_recorded, is_bad_history, is_state_or_parallel, are_below, targets};
+ghost use Rattle.sc_valid.specs.Only.{only};
+
+use crate::attributes::{has, is_text_at, words_at};
+use crate::index::{ChartIndex, parent};
+use crate::tags::{has_kid, is_state_or_parallel};
+use crate::target::are_below;
+use sc_law::{Path, has_states, is_atomic_element, leads_on};
+use sc_types::{Attribute, Bytes, NoMemory, Node, Tag};
+use std::alloc::Global;
+
+impl<'c> ChartIndex<'c> {
+    pub(crate) fn is_bad_initial(&self, alloc: Global, path: &[usize]) -> Result<bool, NoMemory>
+        ensures { IfOk result (λ b. b ≡ is_bad_initial self.now path.now) }
+    {
+        let node = self.element(path);
+        if path.is_empty() && !has_states(node) {
+            return Ok(true);
+        }
+        if has(Attribute::Initial, node) && self.is_bad_member(alloc, path, node)? {
+            return Ok(true);
+        }
+        match node.tag {
+            Tag::Initial => self.is_bad_element(alloc, path),
+            _ => Ok(false),
+        }
+    }
+
+    /// Whether the attribute `initial` is not right.
+    fn is_bad_member(&self, alloc: Global, path: &[usize], node: &Node) -> Result<bool, NoMemory>
+        ensures { IfOk result (λ b. b ≡ is_bad_member self.now path.now node.now (tag_of node.now)) }
+    {
+        let targets = self.targets(alloc, words_at(Attribute::Initial, node))?;
+        Ok(match node.tag {
+            Tag::Scxml => !self.all_orthogonal(targets.slice()),
+            Tag::State => {
+                !has_states(node)
+                    || has_kid(Tag::Initial, node)
+                    || !are_below(path, targets.slice())
+                    || !self.all_orthogonal(targets.slice())
+            }
+            _ => false,
+        })
+    }
+
+    /// Whether the element `initial` is not right.
+    fn is_bad_element(&self, alloc: Global, path: &[usize]) -> Result<bool, NoMemory>
+        ensures { IfOk result (λ b. b ≡ is_bad_element self.now path.now) }
+    {
+        match default_ids(self.element(path)) {
+            Some(ids) => {
+                let targets = self.targets(alloc, ids)?;
+                Ok(self.are_bad_defaults(path, targets.slice()))
+            }
+            None => Ok(true),
+        }
+    }
+
+    fn are_bad_defaults(&self, path: &[usize], targets: &[Path]) -> bool
+        ensures { result ≡ are_bad_defaults self.now path.now targets.now }
+    {
+        !path.is_empty() && is_bad_below(self.parent(path), parent(path), targets)
+            || !self.all_orthogonal(targets)
+    }
+
+    pub(crate) fn is_bad_history(&self, alloc: Global, path: &[usize]) -> Result<bool, NoMemory>
+        ensures { IfOk result (λ b. b ≡ is_bad_history self.now path.now) }
+    {
+        let node = self.element(path);
+        match node.tag {
+            Tag::History => self.is_bad_record(alloc, path, node),
+            _ => Ok(false),
+        }
+    }
+
+    fn is_bad_record(&self, alloc: Global, path: &[usize], node: &Node) -> Result<bool, NoMemory>
+        ensures { IfOk result (λ b. b ≡ option_map_or (λ ids. are_bad_recorded self.now path.now (targets self.now ids)) (default_ids node.now) true) }
+    {
+        match default_ids(node) {
+            Some(ids) => {
+                let targets = self.targets(alloc, ids)?;
+                Ok(self.are_bad_recorded(path, targets.slice()))
+            }
+            None => Ok(true),
+        }
+    }
+
+    fn are_bad_recorded(&self, path: &[usize], targets: &[Path]) -> bool
+        ensures { result ≡ are_bad_recorded self.now path.now targets.now }
+    {
+        self.is_any_bad_recorded(path, targets) || !self.all_orthogonal(targets)
+    }
+
+    fn is_any_bad_recorded(&self, path: &[usize], targets: &[Path]) -> bool
+        ensures { result ≡ list_any (is_bad_recorded self.now path.now) targets.now }
+    {
+        targets
+            .iter()
+            .any(|target| self.is_bad_recorded(path, target.slice()))
+    }
+
+    /// A shallow history's target is a child of its parent, a deep one's is anywhere below it.
+    fn is_bad_recorded(&self, path: &[usize], target: &[usize]) -> bool
+        ensures { result ≡ is_bad_recorded self.now path.now target.now }
+    {
+        self.is_history(target)
+            || path.is_empty()
+            || !leads_on(parent(path), target)
+            || !is_text_at(Attribute::Type, b"deep", self.element(path))
+                && parent(target) != parent(path)
+    }
+
+    fn is_history(&self, path: &[usize]) -> bool
+        ensures { result ≡ is_tag tag_name.History (tag_of (element self.now path.now)) }
+    {
+        matches!(self.tag(path), Tag::History)
+    }
+}
+
+fn is_bad_below(node: &Node, path: &[usize], targets: &[Path]) -> bool
+    ensures { result ≡ (is_atomic_element node.now (tag_of node.now) || is_state_or_parallel (tag_of node.now) && not (are_below path.now targets.now)) }
+{
+    is_atomic_element(node) || is_state_or_parallel(node.tag) && !are_below(path, targets)
+}
+
+/// What the only transition of an element names, where it only names targets.
+fn default_ids(node: &Node) -> Option<&[Bytes]>
+    ensures { option_map (λ ids. ids.now) result ≡ default_ids node.now }
+{
+    let transition = only_transition(node.kids.slice())?;
+    if is_default(transition) {
+        Some(words_at(Attribute::Target, transition))
+    } else {
+        None
+    }
+}
+
+/// The only transition among elements.
+fn only_transition(kids: &[Node]) -> Option<&Node>
+    ensures { option_copied result ≡ only (filter (λ kid. is_tag tag_name.Transition (tag_of kid)) kids.now) }
+{
+    let mut found = None;
+    for kid in kids {
+        if is_transition_tag(kid.tag) {
+            if found.is_some() {
+                return None;
+            }
+            found = Some(kid);
+        }
+    }
+    found
+}
+
+fn is_transition_tag(tag: Tag) -> bool
+    ensures { result ≡ is_tag tag_name.Transition tag }
+{
+    matches!(tag, Tag::Transition)
+}
+
+fn is_default(transition: &Node) -> bool
+    ensures { result ≡ is_default transition.now }
+{
+    !has(Attribute::Event, transition)
+        && !has(Attribute::Cond, transition)
+        && has(Attribute::Target, transition)
+}

@@ -1,0 +1,17 @@
+//! Whether a chart is legal, and else its first fault.
+#![tactic(auto)]
+
+mod attributes;
+mod child;
+mod data;
+mod firsts;
+mod index;
+mod initial;
+mod invoke;
+mod legal;
+mod tags;
+mod target;
+mod validator;
+
+pub use legal::LegalChart;
+pub use validator::validate;
