@@ -6,7 +6,7 @@ use crate::words::{
     clear_bit, clear_words, has_bit, join_words, meet_words, minus_words, next_bit, set_bit,
     words_meet,
 };
-use sc_types::NoMemory;
+use sc_base::NoMemory;
 use std::alloc::Global;
 use std::marker::Model;
 

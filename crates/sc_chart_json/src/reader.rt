@@ -120,7 +120,7 @@ impl Walk {
     {
         Ok(ChartFault {
             number,
-            path: self.path.copy(alloc)?,
+            path: self.path.copy()?,
             member: Sequence::from_slice(alloc, member)?,
         })
     }

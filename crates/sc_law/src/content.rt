@@ -13,7 +13,7 @@ fn value_of(alloc: Global, code: &Expr) -> Result<Value, NoMemory>
     ensures { IfOk result (λ v. v ≡ value_of code.now) }
 {
     match code {
-        Expr::Text(text) => Ok(Value::Text(text.copy(alloc)?)),
+        Expr::Text(text) => Ok(Value::Text(text.copy()?)),
         _ => Ok(Value::Text(Sequence::new(alloc))),
     }
 }
@@ -22,7 +22,7 @@ fn log_label(alloc: Global, node: &Node) -> Result<Bytes, NoMemory>
     ensures { IfOk result (λ l. l ≡ (log_line node.now).label) }
 {
     match member(b"label", node) {
-        Some(Member::Plain(text)) => text.copy(alloc),
+        Some(Member::Plain(text)) => text.copy(),
         _ => Ok(Sequence::new(alloc)),
     }
 }

@@ -17,7 +17,7 @@ const ROUND_LIMIT: u32 = 1000;
 fn take_event(alloc: Global, tree: &Tree, event: &Event, run: &mut RunState) -> Result<(), NoMemory>
     ensures { OnOk result (run.new ≡ take_event tree.now event.now run.old) }
 {
-    run.state.bound = Some(event.copy(alloc)?);
+    run.state.bound = Some(event.copy()?);
     let transitions = select(alloc, tree, Some(event.name.bytes()), run)?;
     microstep(alloc, tree, transitions.slice(), run)?;
     Ok(())
@@ -82,7 +82,7 @@ fn begin(alloc: Global, before: &SessionState) -> Result<RunState, NoMemory>
     ensures { IfOk result (λ r. r ≡ begin before.now) }
 {
     Ok(RunState {
-        state: before.copy(alloc)?,
+        state: before.copy()?,
         todo: Sequence::new(alloc),
         effects: Sequence::new(alloc),
         logs: Sequence::new(alloc),

@@ -193,7 +193,7 @@ fn add_own_path(
     if !tag.is_state() {
         return Ok(());
     }
-    out.push(path.copy(alloc)?)
+    out.push(path.copy()?)
 }
 
 #[cycle(paths)]
@@ -207,7 +207,7 @@ fn add_paths(
 {
     add_own_path(alloc, out, node.tag, path)?;
     for (place, kid) in node.kids.slice().iter().enumerate() {
-        let mut below = path.copy(alloc)?;
+        let mut below = path.copy()?;
         below.push(place)?;
         add_paths(alloc, out, kid, &below)?;
     }

@@ -2,7 +2,8 @@ ghost use Rattle.std.specs.Prelude.{◌≡◌, List, ℕ, Option, map};
 ghost use Rattle.std.specs.Option.{option_map};
 ghost use Rattle.sc_timers.specs.Sends.{is_of, is_picked};
 
-use sc_types::{Event, To, Word};
+use sc_base::Word;
+use sc_types::{Event, To};
 
 /// A delayed send that is pending.
 #[derive(Debug, Drop)]

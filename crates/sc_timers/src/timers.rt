@@ -4,7 +4,7 @@ ghost use Rattle.sc_timers.specs.Sends.{with_send, is_of, is_send, IsBeforeAll, 
 
 use crate::order::{is_due, place_after, remove_picked, send_in, take_first};
 use crate::timed::{Pick, Timed};
-use sc_types::NoMemory;
+use sc_base::NoMemory;
 use slab::Slab;
 use std::alloc::Global;
 use std::collections::VecDeque;

@@ -80,8 +80,8 @@ impl Host {
         };
         self.trees.push(Tree::new(alloc, chart)?)?;
         self.image.charts.push(ChartImage {
-            name: name.copy(alloc)?,
-            text: text.copy(alloc)?,
+            name: name.copy()?,
+            text: text.copy()?,
         })?;
         self.image.commands += 1;
         Ok(Answered::new(alloc, Reply::Installed, Sequence::new(alloc)))
@@ -135,7 +135,7 @@ impl Host {
             return Ok(refused(alloc, Refusal::NoSession));
         };
         if let Phase::Ended(how) = &found.state.phase {
-            return Ok(refused(alloc, Refusal::Ended(how.copy(alloc)?)));
+            return Ok(refused(alloc, Refusal::Ended(how.copy()?)));
         }
         let number = self.image.events + 1;
         let event = posted_event(alloc, number, name, pairs)?;
@@ -156,7 +156,7 @@ impl Host {
             return Ok(refused(alloc, Refusal::NoSession));
         };
         if let Phase::Ended(how) = &found.state.phase {
-            return Ok(refused(alloc, Refusal::Ended(how.copy(alloc)?)));
+            return Ok(refused(alloc, Refusal::Ended(how.copy()?)));
         }
         let Some(cue) = cue_of(alloc, found)? else {
             return Ok(refused(alloc, Refusal::Idle));
@@ -219,7 +219,7 @@ impl Host {
         ensures { IfOk result (λ r. r ≡ ready self.now.image) }
     {
         match first_ready(&self.image) {
-            Some(session) => Ok(Some(session.state.session.copy(alloc)?)),
+            Some(session) => Ok(Some(session.state.session.copy()?)),
             None => Ok(None),
         }
     }
@@ -281,7 +281,7 @@ fn waiting_cue(alloc: Global, internal: &[Event], queued: &[Event]) -> Result<Op
 {
     match (internal, queued) {
         ([], []) => Ok(None),
-        ([], [front, ..]) => Ok(Some(Cue::External(front.copy(alloc)?))),
+        ([], [front, ..]) => Ok(Some(Cue::External(front.copy()?))),
         ([_, ..], _) => Ok(Some(Cue::Resume)),
     }
 }
@@ -372,8 +372,8 @@ fn fresh_state(alloc: Global, session: &Word, chart: &Word) -> Result<SessionSta
     ensures { IfOk result (λ s. s ≡ fresh_state session.now chart.now) }
 {
     Ok(SessionState {
-        session: session.copy(alloc)?,
-        chart: chart.copy(alloc)?,
+        session: session.copy()?,
+        chart: chart.copy()?,
         phase: Phase::Fresh,
         configuration: Sequence::new(alloc),
         values: Sequence::new(alloc),
@@ -406,7 +406,7 @@ fn pairs_data(alloc: Global, pairs: &PairList) -> Result<Data, NoMemory>
     if pairs.is_empty() {
         return Ok(Data::Absent);
     }
-    Ok(Data::Pairs(pairs.copy(alloc)?))
+    Ok(Data::Pairs(pairs.copy()?))
 }
 
 fn posted_event(

@@ -3,7 +3,7 @@
 use Rattle.std.specs.Prelude.{ℕ, ◌+◌, ◌-◌, ◌*◌, ◌^◌, ◌==◌, Bool, ◌&&◌, nat_eq, nat_le, nat_lt, if◌then◌else◌, Option, Some, None, List, [], ◌∷◌, length, take, drop, codes}
 use Rattle.std.specs.List.{list_all, ends_with, prefix_len}
 use Rattle.std.specs.Str.Parse.{digits_value}
-use Rattle.sc_types.specs.Text.{is_digit}
+use Rattle.sc_base.specs.Text.{is_digit}
 
 abbrev pub are_digits : List ℕ → Bool
 are_digits text = list_all is_digit text

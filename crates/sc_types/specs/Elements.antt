@@ -6,7 +6,7 @@ use Rattle.std.specs.Str.{bytes_eq}
 use Rattle.std.specs.Str.Parse.{digits_value}
 use Rattle.sc_types.specs.Delays.{are_digits, delay_of}
 use Rattle.sc_types.specs.Descriptors.{is_white_space, pieces}
-use Rattle.sc_types.specs.Text.{is_word, is_plain_name, is_text}
+use Rattle.sc_base.specs.Text.{is_word, is_plain_name, is_text}
 use Rattle.sc_types.specs.declared.attribute.Attribute.{Attribute}
 use Rattle.sc_types.specs.declared.attribute.Attribute.TheVariants as attribute
 use Rattle.sc_types.specs.declared.attribute.Form.{Form}

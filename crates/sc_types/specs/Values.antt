@@ -5,7 +5,7 @@ use Rattle.std.specs.List.{list_all, flat_map}
 use Rattle.std.specs.Fmt.{signed_decimal}
 use Rattle.std.specs.Str.{bytes_eq}
 use Rattle.sc_types.specs.Descriptors.{is_white_space}
-use Rattle.sc_types.specs.Text.{is_text, is_int}
+use Rattle.sc_base.specs.Text.{is_text, is_int}
 use Rattle.sc_types.specs.Tokens.{tokens}
 use Rattle.sc_types.specs.declared.token.Mark.TheVariants.{OpenSquare, CloseSquare, Comma}
 use Rattle.sc_types.specs.declared.token.Token.{Token}

@@ -5,33 +5,28 @@
 #![tactic(auto)]
 
 mod attribute;
-mod boxed;
 mod chart;
 mod command;
 mod event;
 mod expr;
 mod history;
 mod host;
-mod memory;
-mod plain;
-mod sequence;
+mod node;
 mod session;
-mod text;
 mod token;
 mod value;
 
 pub use attribute::{Attribute, Form};
-pub use boxed::Boxed;
 pub use chart::{Chart, ChartFault, ChartRefusal, Member, Node, Tag};
 pub use command::{Command, Refusal, Reply};
 pub use event::{Data, Event, Kind};
 pub use expr::{EventField, Expr, Op};
 pub use history::{Delivery, Entry, LogLine, Who};
 pub use host::{ChartImage, HostImage, InvokerImage, SessionImage, TimerImage, To};
-pub use memory::NoMemory;
-pub use plain::Plain;
-pub use sequence::{Bytes, Sequence};
+pub use sc_base::{
+    Boxed, Bytes, Failure, Name, NoMemory, Plain, PlainName, Queue, Sequence, SmallBytes,
+    TextWriter, Unfit, Word, is_plain_name, is_text, is_word,
+};
 pub use session::{Cue, CueName, How, Invoked, Phase, SessionState};
-pub use text::{Name, PlainName, Unfit, Word, is_plain_name, is_text, is_word};
 pub use token::{Mark, Token};
 pub use value::{PairList, Value};

@@ -39,7 +39,7 @@ impl<'c> ChartIndex<'c> {
         let mut targets = Sequence::new(alloc);
         for id in ids {
             if let Some(path) = self.state_named(id.slice()) {
-                targets.push(path.copy(alloc)?)?;
+                targets.push(path.copy()?)?;
             }
         }
         Ok(targets)

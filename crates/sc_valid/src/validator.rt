@@ -147,9 +147,9 @@ fn add_paths(
 ) -> Result<(), NoMemory>
     ensures { OnOk result (out.new ≡ out.old ++ elements_from node.now path.now) }
 {
-    out.push(path.copy(alloc)?)?;
+    out.push(path.copy()?)?;
     for (place, kid) in node.kids.slice().iter().enumerate() {
-        let mut below = path.copy(alloc)?;
+        let mut below = path.copy()?;
         below.push(place)?;
         add_paths(alloc, out, kid, &below)?;
     }

@@ -19,6 +19,11 @@ impl<T> Model for Boxed<T> {
 }
 
 impl<T> Boxed<T> {
+    /// Where the value's memory comes from.
+    pub fn allocator(&self) -> Global {
+        *Box::allocator(&self.inner)
+    }
+
     pub fn get(&self) -> &T
         ensures { result.now ≡ self.now }
     {
@@ -34,4 +39,18 @@ impl<T: Drop> Boxed<T> {
             inner: Box::new(alloc, value)?,
         })
     }
+}
+
+impl<T: PartialEq> PartialEq for Boxed<T> {
+    ghost eq = { T.eq };
+
+    ghost laws = { T.laws };
+
+    fn eq(&self, other: &Boxed<T>) -> bool {
+        self.get() == other.get()
+    }
+}
+
+impl<T: Eq> Eq for Boxed<T> {
+    ghost laws = { T.Eq.laws };
 }

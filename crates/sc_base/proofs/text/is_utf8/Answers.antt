@@ -1,6 +1,6 @@
 use Rattle.std.proofs.Common.{rules, ◌≡◌, Bool, true, false, sym, refl}
 use Rattle.std.proofs.lemmas.Str.{IsUtf8-from_is_utf8, is_utf8-from_IsUtf8}
-use Rattle.sc_types.proofs.text.is_utf8.Goals as goal
+use Rattle.sc_base.proofs.text.is_utf8.Goals as goal
 
 -- what is not true is false
 not_true : (b : Bool) → ¬ (b ≡ true) → false ≡ b

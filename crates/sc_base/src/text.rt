@@ -1,15 +1,15 @@
 ghost use Rattle.std.specs.Prelude.{◌≡◌, ◌↔◌, ◌==◌, ◌||◌, not, IsTrue, IfOk};
 ghost use Rattle.std.specs.List.{list_all};
 ghost use Rattle.std.specs.Str.{IsUtf8, is_utf8};
-ghost use Rattle.sc_types.specs.Text.{is_name_byte, is_letter, is_digit, is_keyword, starts_with_letter, is_plain_name, is_text_byte, is_text, is_name, is_word, IsName, IsWord, IsPlainName};
+ghost use Rattle.sc_base.specs.Text.{is_name_byte, is_letter, is_digit, is_keyword, starts_with_letter, is_plain_name, is_text_byte, is_text, is_name, is_word, IsName, IsWord, IsPlainName};
 
 use crate::memory::NoMemory;
 use crate::plain::Plain;
-use crate::sequence::{Bytes, Sequence};
-use std::alloc::Global;
+use crate::small_bytes::SmallBytes;
+use std::alloc::{AllocError, Global};
 use std::marker::Model;
 
-/// Why a text was not taken for a name: it lacks the form, or memory was wanting.
+/// Why a text was not taken for a name: it lacks the form, or out of memory.
 #[derive(Clone, Copy, Debug, PartialEq, Eq)]
 pub enum Unfit {
     Form,
@@ -18,7 +18,7 @@ pub enum Unfit {
 
 impl From<NoMemory> for Unfit {
     ghost use Rattle.std.specs.Prelude.{◌≡◌};
-    ghost use Rattle.sc_types.specs.declared.text.Unfit.TheVariants.{NoMemory};
+    ghost use Rattle.sc_base.specs.declared.text.Unfit.TheVariants.{NoMemory};
 
     ghost from_gives = { λ _ e. e ≡ NoMemory };
 
@@ -30,25 +30,25 @@ impl From<NoMemory> for Unfit {
 /// UTF-8 text of at least one byte, each above 0x20 and none of 0x7F, `"`, `'`, `\`. The names of events.
 #[derive(Debug, Drop)]
 pub struct Name {
-    bytes: Bytes,
+    bytes: SmallBytes,
 }
 
 /// A [`Name`] without `#`. The names of charts, sessions and states.
 #[derive(Debug, Drop)]
 pub struct Word {
-    bytes: Bytes,
+    bytes: SmallBytes,
 }
 
 /// An ASCII letter or `_`, then ASCII letters, digits and `_`; at most 128 bytes; none of `true`, `false`,
 /// `In`, `len` and `text`. The names of data.
 #[derive(Debug, Drop)]
 pub struct PlainName {
-    bytes: Bytes,
+    bytes: SmallBytes,
 }
 
 impl Model for Name {
     ghost use Rattle.std.specs.Prelude.{List, ℕ};
-    ghost use Rattle.sc_types.specs.Text.{IsName};
+    ghost use Rattle.sc_base.specs.Text.{IsName};
 
     ghost Value = { List ℕ };
 
@@ -59,7 +59,7 @@ impl Model for Name {
 
 impl Model for Word {
     ghost use Rattle.std.specs.Prelude.{List, ℕ};
-    ghost use Rattle.sc_types.specs.Text.{IsWord};
+    ghost use Rattle.sc_base.specs.Text.{IsWord};
 
     ghost Value = { List ℕ };
 
@@ -70,7 +70,7 @@ impl Model for Word {
 
 impl Model for PlainName {
     ghost use Rattle.std.specs.Prelude.{List, ℕ};
-    ghost use Rattle.sc_types.specs.Text.{IsPlainName};
+    ghost use Rattle.sc_base.specs.Text.{IsPlainName};
 
     ghost Value = { List ℕ };
 
@@ -189,7 +189,7 @@ impl Name {
             return Err(Unfit::Form);
         }
         Ok(Name {
-            bytes: Sequence::from_slice(alloc, text)?,
+            bytes: SmallBytes::from_slice(alloc, text)?,
         })
     }
 
@@ -211,7 +211,7 @@ impl Word {
             return Err(Unfit::Form);
         }
         Ok(Word {
-            bytes: Sequence::from_slice(alloc, text)?,
+            bytes: SmallBytes::from_slice(alloc, text)?,
         })
     }
 
@@ -223,11 +223,11 @@ impl Word {
     }
 
     /// The same text as the name of an event.
-    pub fn name(&self, alloc: Global) -> Result<Name, NoMemory>
+    pub fn name(&self) -> Result<Name, NoMemory>
         ensures { IfOk result (λ n. n ≡ self.now) }
     {
         Ok(Name {
-            bytes: self.bytes.copy(alloc)?,
+            bytes: self.bytes.copy()?,
         })
     }
 }
@@ -242,7 +242,7 @@ impl PlainName {
             return Err(Unfit::Form);
         }
         Ok(PlainName {
-            bytes: Sequence::from_slice(alloc, text)?,
+            bytes: SmallBytes::from_slice(alloc, text)?,
         })
     }
 
@@ -254,38 +254,104 @@ impl PlainName {
     }
 }
 
-impl Plain for Name {
-    fn copy(&self, alloc: Global) -> Result<Name, NoMemory> {
+impl Clone for Name {
+    ghost is_clone = { λ a b. b ≡ a };
+
+    fn clone(&self) -> Result<Self, AllocError> {
         Ok(Name {
-            bytes: self.bytes.copy(alloc)?,
+            bytes: self.bytes.clone()?,
         })
     }
+}
 
-    fn same(&self, other: &Name) -> bool {
-        self.bytes.same(&other.bytes)
+impl Plain for Name {
+    ghost clone_equals = { λ a b e. e };
+}
+
+impl PartialEq for Name {
+    ghost use Rattle.std.specs.Prelude.{nat_eq};
+    ghost use Rattle.std.specs.Cmp.{partial_equiv_from_equiv};
+    ghost use Rattle.std.specs.Cmp.Lexicographic.{pointwise, nat_list_eq_equiv};
+
+    ghost eq = { pointwise nat_eq };
+
+    ghost laws = { partial_equiv_from_equiv nat_list_eq_equiv };
+
+    fn eq(&self, other: &Name) -> bool {
+        self.bytes == other.bytes
+    }
+}
+
+impl Eq for Name {
+    ghost use Rattle.std.specs.Cmp.Lexicographic.{nat_list_eq_equiv};
+
+    ghost laws = { nat_list_eq_equiv };
+}
+
+impl Clone for Word {
+    ghost is_clone = { λ a b. b ≡ a };
+
+    fn clone(&self) -> Result<Self, AllocError> {
+        Ok(Word {
+            bytes: self.bytes.clone()?,
+        })
     }
 }
 
 impl Plain for Word {
-    fn copy(&self, alloc: Global) -> Result<Word, NoMemory> {
-        Ok(Word {
-            bytes: self.bytes.copy(alloc)?,
-        })
-    }
+    ghost clone_equals = { λ a b e. e };
+}
 
-    fn same(&self, other: &Word) -> bool {
-        self.bytes.same(&other.bytes)
+impl PartialEq for Word {
+    ghost use Rattle.std.specs.Prelude.{nat_eq};
+    ghost use Rattle.std.specs.Cmp.{partial_equiv_from_equiv};
+    ghost use Rattle.std.specs.Cmp.Lexicographic.{pointwise, nat_list_eq_equiv};
+
+    ghost eq = { pointwise nat_eq };
+
+    ghost laws = { partial_equiv_from_equiv nat_list_eq_equiv };
+
+    fn eq(&self, other: &Word) -> bool {
+        self.bytes == other.bytes
+    }
+}
+
+impl Eq for Word {
+    ghost use Rattle.std.specs.Cmp.Lexicographic.{nat_list_eq_equiv};
+
+    ghost laws = { nat_list_eq_equiv };
+}
+
+impl Clone for PlainName {
+    ghost is_clone = { λ a b. b ≡ a };
+
+    fn clone(&self) -> Result<Self, AllocError> {
+        Ok(PlainName {
+            bytes: self.bytes.clone()?,
+        })
     }
 }
 
 impl Plain for PlainName {
-    fn copy(&self, alloc: Global) -> Result<PlainName, NoMemory> {
-        Ok(PlainName {
-            bytes: self.bytes.copy(alloc)?,
-        })
-    }
+    ghost clone_equals = { λ a b e. e };
+}
 
-    fn same(&self, other: &PlainName) -> bool {
-        self.bytes.same(&other.bytes)
+impl PartialEq for PlainName {
+    ghost use Rattle.std.specs.Prelude.{nat_eq};
+    ghost use Rattle.std.specs.Cmp.{partial_equiv_from_equiv};
+    ghost use Rattle.std.specs.Cmp.Lexicographic.{pointwise, nat_list_eq_equiv};
+
+    ghost eq = { pointwise nat_eq };
+
+    ghost laws = { partial_equiv_from_equiv nat_list_eq_equiv };
+
+    fn eq(&self, other: &PlainName) -> bool {
+        self.bytes == other.bytes
     }
+}
+
+impl Eq for PlainName {
+    ghost use Rattle.std.specs.Cmp.Lexicographic.{nat_list_eq_equiv};
+
+    ghost laws = { nat_list_eq_equiv };
 }

@@ -18,10 +18,10 @@ use Rattle.std.specs.contracts.boxed.Box as box
 use Rattle.std.specs.declared.alloc.Global.{Global}
 use Rattle.std.specs.contracts.alloc.Global as heap
 use Rattle.std.specs.contracts.impls.GlobalAllocator.TheImpl.{ghosts}
-use Rattle.sc_types.specs.declared.boxed.Boxed.TheInside.{Inside}
-use Rattle.sc_types.specs.declared.boxed.Boxed.TheView.{view, invariant}
-use Rattle.sc_types.specs.contracts.boxed.Boxed as boxed
-use Rattle.sc_types.specs.contracts.boxed.Boxed.TheInside as inside
+use Rattle.sc_base.specs.declared.boxed.Boxed.TheInside.{Inside}
+use Rattle.sc_base.specs.declared.boxed.Boxed.TheView.{view, invariant}
+use Rattle.sc_base.specs.contracts.boxed.Boxed as boxed
+use Rattle.sc_base.specs.contracts.boxed.Boxed.TheInside as inside
 
 -- what the type is, seen from outside: its value
 abbrev pub the_former : Former {0} → Former {0}

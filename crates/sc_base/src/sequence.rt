@@ -1,11 +1,11 @@
 ghost use Rattle.std.specs.Prelude.{◌≡◌, ◌<◌, [], ◌∷◌, ◌++◌, length, slice_get, slice_set, IsTrue, ◌↔◌, IfOk, OnOk, OnErr, OnSome, MatchOption};
 ghost use Rattle.std.specs.Option.{option_copied};
 ghost use Rattle.std.specs.Borrow.{Lends, sem};
-ghost use Rattle.sc_types.specs.contracts.sequence.Sequence.{the_row};
+ghost use Rattle.sc_base.specs.contracts.sequence.Sequence.{the_row};
 
 use crate::memory::NoMemory;
 use crate::plain::Plain;
-use std::alloc::Global;
+use std::alloc::{AllocError, Global};
 use std::marker::Model;
 
 /// A growable list, which contracts see as the list of its items.
@@ -13,9 +13,6 @@ use std::marker::Model;
 pub struct Sequence<T> {
     items: Vec<T>,
 }
-
-/// A list of bytes.
-pub type Bytes = Sequence<u8>;
 
 impl<T> Model for Sequence<T> {
     ghost use Rattle.std.specs.Prelude.{List};
@@ -35,6 +32,25 @@ impl<T> Sequence<T> {
         Sequence {
             items: Vec::new(alloc),
         }
+    }
+
+    /// The list of the vector's items. Nothing is copied.
+    pub fn from_vec(items: Vec<T>) -> Sequence<T>
+        ensures { result ≡ items.items }
+    {
+        Sequence { items }
+    }
+
+    /// The items as a vector. Nothing is copied.
+    pub fn into_vec(self) -> Vec<T>
+        ensures { result.items ≡ self }
+    {
+        self.items
+    }
+
+    /// Where the list's memory comes from.
+    pub fn allocator(&self) -> Global {
+        *self.items.allocator()
     }
 
     pub fn len(&self) -> usize
@@ -74,7 +90,7 @@ impl<T> Sequence<T> {
 }
 
 impl<T: Drop> Sequence<T> {
-    /// Puts an item at the end. Where memory is wanting the list stays as it was.
+    /// Puts an item at the end. Out of memory, the list stays as it was.
     pub fn push(&mut self, item: T) -> Result<(), NoMemory>
         ensures ok { OnOk result (self.new ≡ self.old ++ item ∷ []) }
         ensures err { OnErr result (self.new ≡ self.old) }
@@ -89,16 +105,6 @@ impl<T: Drop> Sequence<T> {
     {
         self.items.pop()
     }
-
-    /// Takes the first item out.
-    pub fn pop_front(&mut self) -> Option<T>
-        ensures { MatchOption result ((self.old ≡ []) × (self.new ≡ [])) (λ first. self.old ≡ first ∷ self.new) }
-    {
-        if self.items.is_empty() {
-            return None;
-        }
-        Some(self.items.remove(0))
-    }
 }
 
 impl<T: Copy> Sequence<T> {
@@ -110,30 +116,34 @@ impl<T: Copy> Sequence<T> {
     }
 }
 
-impl<T: Plain> Plain for Sequence<T> {
-    fn copy(&self, alloc: Global) -> Result<Sequence<T>, NoMemory> {
-        let mut copy = Sequence::new(alloc);
-        for item in self.slice() {
-            copy.push(item.copy(alloc)?)?;
-        }
-        Ok(copy)
-    }
+impl<T: Clone> Clone for Sequence<T> {
+    ghost is_clone = { λ s t. ((x y : T) → T.is_clone x y → y ≡ x) → t ≡ s };
 
-    fn same(&self, other: &Sequence<T>) -> bool {
-        same_items(self.slice(), other.slice())
+    fn clone(&self) -> Result<Self, AllocError> {
+        Ok(Sequence {
+            items: Vec::from_clones(*self.items.allocator(), self.items.as_slice())?,
+        })
     }
 }
 
-fn same_items<T: Plain>(a: &[T], b: &[T]) -> bool
-    ensures { IsTrue result ↔ (a.now ≡ b.now) }
-{
-    if a.len() != b.len() {
-        return false;
+impl<T: Plain> Plain for Sequence<T> {
+    ghost clone_equals = { λ s t h. h T.clone_equals };
+}
+
+impl<T: PartialEq> PartialEq for Sequence<T> {
+    ghost use Rattle.std.specs.Cmp.Lexicographic.{pointwise, lists_per};
+
+    ghost eq = { pointwise T.eq };
+
+    ghost laws = { lists_per T.laws };
+
+    fn eq(&self, other: &Sequence<T>) -> bool {
+        self.items.as_slice() == other.items.as_slice()
     }
-    for i in 0..a.len() {
-        if !a[i].same(&b[i]) {
-            return false;
-        }
-    }
-    true
+}
+
+impl<T: Eq> Eq for Sequence<T> {
+    ghost use Rattle.std.specs.Cmp.Lexicographic.{lists_equiv};
+
+    ghost laws = { lists_equiv T.Eq.laws };
 }

@@ -15,10 +15,10 @@ use Rattle.std.specs.formers.vec.Vec as vec
 use Rattle.std.specs.declared.alloc.Global.{Global}
 use Rattle.std.specs.contracts.alloc.Global as heap
 use Rattle.std.specs.contracts.impls.GlobalAllocator.TheImpl.{ghosts}
-use Rattle.sc_types.specs.declared.sequence.Sequence.TheInside.{Inside}
-use Rattle.sc_types.specs.declared.sequence.Sequence.TheView.{view, invariant}
-use Rattle.sc_types.specs.contracts.sequence.Sequence as sequence
-use Rattle.sc_types.specs.contracts.sequence.Sequence.TheInside as inside
+use Rattle.sc_base.specs.declared.sequence.Sequence.TheInside.{Inside}
+use Rattle.sc_base.specs.declared.sequence.Sequence.TheView.{view, invariant}
+use Rattle.sc_base.specs.contracts.sequence.Sequence as sequence
+use Rattle.sc_base.specs.contracts.sequence.Sequence.TheInside as inside
 
 -- what the type is, seen from outside: a list
 abbrev pub the_former : Former {0} → Former {0}

@@ -2,8 +2,8 @@ use std::alloc::{AllocError, AllocFailed};
 use std::error::Error;
 use std::fmt;
 
-/// Memory was wanting. It is the one answer that no contract ties to a cause; what a call leaves behind is
-/// as before unless its own page says otherwise.
+/// Out of memory. It is the one answer that no contract ties to a cause; what a call leaves behind is as before
+/// unless its own page says otherwise.
 #[derive(Clone, Copy, Debug, PartialEq, Eq)]
 pub struct NoMemory;
 

@@ -1,0 +1,3 @@
+pub mod SmallBytes
+pub mod Text
+pub mod formers
