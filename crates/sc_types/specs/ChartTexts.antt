@@ -9,7 +9,7 @@ use Rattle.serde_json.specs.Data.{Data, null, Items, no_items, item, Members, no
 use Rattle.serde_json.specs.Find.{get, as_str, as_array, as_object}
 use Rattle.serde_json.specs.Read.{read}
 use Rattle.sc_types.specs.Descriptors.{pieces}
-use Rattle.sc_types.specs.Elements.{tag_of, is_state, attribute_text, attributes, required, either, form_of, has_form, is_code}
+use Rattle.sc_types.specs.Elements.{tag_of, is_numbered, attribute_text, attributes, required, either, form_of, has_form, is_code}
 use Rattle.sc_types.specs.declared.attribute.Attribute.{Attribute}
 use Rattle.sc_types.specs.declared.attribute.Form.{Form}
 use Rattle.sc_types.specs.declared.attribute.Form.TheVariants as form
@@ -100,7 +100,7 @@ bad_code code_of tag d = find (is_bad_code code_of tag d) (attributes tag)
 
 -- one state more than a chart may have
 abbrev pub many_fault : ℕ → List ℕ → Tag → Option ChartFault
-many_fault before path tag = if is_state tag && nat_le 4096 before then Some (fault 8 path []) else None
+many_fault before path tag = if is_numbered tag && nat_le 4096 before then Some (fault 8 path []) else None
 
 -- what is wrong with an element of a known tag, where so many states stand before it
 abbrev pub tagged_fault : Reading → ℕ → Place → Tag → Option ChartFault
@@ -119,7 +119,7 @@ own_fault code_of before p =
     else option_map_or (tagged_fault code_of before p) (tag_at p.value) (Some (fault 3 p.path []))
 
 abbrev pub states_at : Place → ℕ
-states_at p = if option_map_or is_state (tag_at p.value) false then 1 else 0
+states_at p = if option_map_or is_numbered (tag_at p.value) false then 1 else 0
 
 abbrev pub or_else : Option ChartFault → Option ChartFault → Option ChartFault
 or_else None later = later
@@ -185,7 +185,7 @@ chart_of code_of text = option_map_or Err (fault_of code_of text) (Ok (value_cha
 -- how many states a chart has, with parallels, finals and histories
 
 abbrev pub state_step : Node-F ℕ → ℕ
-state_step n = (if is_state n.tag then 1 else 0) + sum n.kids
+state_step n = (if is_numbered n.tag then 1 else 0) + sum n.kids
 
 unfoldable pub states_in : Node → ℕ
 states_in n = fold-Node ℕ state_step n

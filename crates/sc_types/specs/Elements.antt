@@ -50,13 +50,20 @@ tags = tag.Scxml ∷ tag.State ∷ tag.Parallel ∷ tag.Final ∷ tag.History �
 abbrev pub tag_of : List ℕ → Option Tag
 tag_of text = find (λ t. bytes_eq (tag_text t) text) tags
 
--- the elements that are counted and numbered as states
+-- the states; a history is none
 abbrev pub is_state : Tag → Bool
 is_state tag.State = true
 is_state tag.Parallel = true
 is_state tag.Final = true
-is_state tag.History = true
 is_state t = false
+
+-- the elements that are numbered: states and histories
+abbrev pub is_numbered : Tag → Bool
+is_numbered tag.State = true
+is_numbered tag.Parallel = true
+is_numbered tag.Final = true
+is_numbered tag.History = true
+is_numbered t = false
 
 abbrev pub attribute_text : Attribute → List ℕ
 attribute_text attribute.Array = codes "array"

@@ -1,10 +1,13 @@
+pub mod Ascending
 pub mod ChartTexts
 pub mod Delays
 pub mod Descriptors
 pub mod Elements
 pub mod Expressions
 pub mod FlatChart
+pub mod Folds
 pub mod PrintedCharts
+pub mod Sends
 pub mod Text
 pub mod Tokens
 pub mod Values

@@ -1,6 +1,6 @@
 ghost use Rattle.std.specs.Prelude.{◌≡◌, ◌↔◌, IsTrue, IfOk, find};
 ghost use Rattle.std.specs.Str.{bytes_eq};
-ghost use Rattle.sc_types.specs.Elements.{tag_text, tag_of, is_state};
+ghost use Rattle.sc_types.specs.Elements.{tag_text, tag_of, is_state, is_numbered};
 
 use crate::expr::Expr;
 use crate::memory::NoMemory;
@@ -108,9 +108,16 @@ impl Tag {
         tag_named(&TAGS, text)
     }
 
-    /// Whether elements of this tag are counted and numbered as states.
+    /// Whether elements of this tag are states. Histories are none.
     pub fn is_state(self) -> bool
         ensures { result ≡ is_state self }
+    {
+        matches!(self, Tag::State | Tag::Parallel | Tag::Final)
+    }
+
+    /// Whether elements of this tag are numbered: states and histories.
+    pub fn is_numbered(self) -> bool
+        ensures { result ≡ is_numbered self }
     {
         matches!(self, Tag::State | Tag::Parallel | Tag::Final | Tag::History)
     }

@@ -49,6 +49,7 @@ pub enum To {
 #[derive(Debug, Drop)]
 pub struct TimerImage {
     pub session: Word,
+    /// Each send has a number of its own; a later one has a larger one.
     pub number: u64,
     pub due: u64,
     pub event: Event,

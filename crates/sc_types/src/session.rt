@@ -69,6 +69,8 @@ pub enum Cue {
     Fresh,
     /// Internal events are waiting.
     Resume,
+    /// The session is to be cancelled.
+    Cancel,
     /// The front of the external queue.
     External(Event),
 }
@@ -78,6 +80,7 @@ pub enum Cue {
 pub enum CueName {
     Fresh,
     Resume,
+    Cancel,
     External(u128),
 }
 
@@ -176,13 +179,15 @@ impl Plain for Cue {
         match self {
             Cue::Fresh => Ok(Cue::Fresh),
             Cue::Resume => Ok(Cue::Resume),
+            Cue::Cancel => Ok(Cue::Cancel),
             Cue::External(event) => Ok(Cue::External(event.copy(alloc)?)),
         }
     }
 
     fn same(&self, other: &Cue) -> bool {
         match (self, other) {
-            (Cue::Fresh, Cue::Fresh) | (Cue::Resume, Cue::Resume) => true,
+            (Cue::Fresh, Cue::Fresh) | (Cue::Resume, Cue::Resume) | (Cue::Cancel, Cue::Cancel) =>
+                true,
             (Cue::External(a), Cue::External(b)) => a.same(b),
             _ => false,
         }
