@@ -53,9 +53,13 @@ is_plain_name text = nat_le (length text) 128 && starts_with_letter text && list
 abbrev pub is_text_byte : ℕ → Bool
 is_text_byte b = (nat_le 0x20 b || b == 10 || b == 9) && not (b == 0x7f)
 
+-- what a text of at most so many bytes may hold
+abbrev pub is_text_within : ℕ → List ℕ → Bool
+is_text_within most text = nat_le (length text) most && is_utf8 text && list_all is_text_byte text
+
 -- what a text of the data model may hold
 abbrev pub is_text : List ℕ → Bool
-is_text text = nat_le (length text) 4096 && is_utf8 text && list_all is_text_byte text
+is_text text = is_text_within 4096 text
 
 -- what 64 bits hold
 abbrev pub is_int : ℤ → Bool

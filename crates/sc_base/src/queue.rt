@@ -1,4 +1,4 @@
-ghost use Rattle.std.specs.Prelude.{◌≡◌, ◌<◌, [], ◌∷◌, ◌++◌, length, slice_get, IsTrue, ◌↔◌, IfOk, OnOk, OnErr, OnSome, MatchOption};
+ghost use Rattle.std.specs.Prelude.{◌≡◌, ◌<◌, [], ◌∷◌, ◌++◌, length, drop, slice_get, IsTrue, ◌↔◌, IfOk, OnOk, OnErr, OnSome, MatchOption};
 ghost use Rattle.std.specs.Option.{option_copied};
 
 use crate::memory::NoMemory;
@@ -51,6 +51,15 @@ impl<T> Queue<T> {
         ensures within { OnSome result (place < length self.now) }
     {
         self.items.get(place)
+    }
+}
+
+impl<T> Queue<T> {
+    /// The front, where there is one.
+    pub fn front(&self) -> Option<&T>
+        ensures { MatchOption result (self.now ≡ []) (λ front. self.now ≡ front.now ∷ drop 1 self.now) }
+    {
+        self.items.front()
     }
 }
 

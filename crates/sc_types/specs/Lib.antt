@@ -6,5 +6,6 @@ pub mod Elements
 pub mod Expressions
 pub mod FlatChart
 pub mod PrintedCharts
+pub mod Sends
 pub mod Tokens
 pub mod Values

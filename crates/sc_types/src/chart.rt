@@ -1,7 +1,7 @@
 ghost use Rattle.std.specs.Prelude.{◌≡◌, ◌↔◌, IsTrue, IfOk, find};
 ghost use Rattle.std.specs.Str.{bytes_eq};
 ghost use Rattle.std.proofs.Common.{rules};
-ghost use Rattle.sc_types.specs.Elements.{tag_text, tag_of, is_state};
+ghost use Rattle.sc_types.specs.Elements.{tag_text, tag_of, is_state, is_numbered};
 
 use crate::expr::Expr;
 use sc_base::{Bytes, NoMemory, Plain, Sequence};
@@ -107,9 +107,16 @@ impl Tag {
         tag_named(&TAGS, text)
     }
 
-    /// Whether elements of this tag are counted and numbered as states.
+    /// Whether elements of this tag are states. Histories are none.
     pub fn is_state(self) -> bool
         ensures { result ≡ is_state self }
+    {
+        matches!(self, Tag::State | Tag::Parallel | Tag::Final)
+    }
+
+    /// Whether elements of this tag are numbered: states and histories.
+    pub fn is_numbered(self) -> bool
+        ensures { result ≡ is_numbered self }
     {
         matches!(self, Tag::State | Tag::Parallel | Tag::Final | Tag::History)
     }
@@ -127,7 +134,7 @@ fn tag_named(tags: &[Tag], text: &[u8]) -> Option<Tag>
 }
 
 /// The value of an attribute of an element.
-#[derive(Clone, Debug, Drop, PartialEq, Eq)]
+#[derive(Clone, Debug, Drop)]
 pub enum Member {
     /// The text as given.
     Plain(Bytes),
@@ -138,7 +145,7 @@ pub enum Member {
 }
 
 /// An element: its tag, its attributes in ascending order of their names, and its child elements.
-#[derive(Debug, Drop, PartialEq, Eq)]
+#[derive(Debug, Drop)]
 pub struct Node {
     pub tag: Tag,
     pub members: Sequence<(Bytes, Member)>,
@@ -146,7 +153,7 @@ pub struct Node {
 }
 
 /// A state chart, as the tree of its elements.
-#[derive(Clone, Debug, Drop, PartialEq, Eq)]
+#[derive(Clone, Debug, Drop)]
 pub struct Chart {
     pub root: Node,
 }

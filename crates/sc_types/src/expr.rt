@@ -38,7 +38,7 @@ pub enum EventField {
 }
 
 /// An expression of the data model: at most 256 levels deep, of which a leaf is one.
-#[derive(Debug, Drop, PartialEq, Eq)]
+#[derive(Debug, Drop)]
 pub enum Expr {
     Bool(bool),
     /// Not negative.

@@ -47,6 +47,7 @@ pub enum To {
 #[derive(Clone, Debug, Drop, PartialEq, Eq)]
 pub struct TimerImage {
     pub session: Word,
+    /// Each send has a number of its own; a later one has a larger one.
     pub number: u64,
     pub due: u64,
     pub event: Event,

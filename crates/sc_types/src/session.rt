@@ -67,6 +67,8 @@ pub enum Cue {
     Fresh,
     /// Internal events are waiting.
     Resume,
+    /// The session is to be cancelled.
+    Cancel,
     /// The front of the external queue.
     External(Event),
 }
@@ -76,6 +78,7 @@ pub enum Cue {
 pub enum CueName {
     Fresh,
     Resume,
+    Cancel,
     External(u128),
 }
 

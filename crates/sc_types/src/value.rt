@@ -3,6 +3,7 @@ ghost use Rattle.std.specs.List.{list_all};
 ghost use Rattle.sc_base.specs.Text.{is_int};
 ghost use Rattle.sc_types.specs.Values.{is_item, fits};
 
+use crate::limits::ITEM_LIMIT;
 use sc_base::{Bytes, NoMemory, Plain, PlainName, Sequence, is_text};
 use std::alloc::AllocError;
 
@@ -54,7 +55,7 @@ impl Value {
             Value::Bool(_) => true,
             Value::Int(number) => is_int(*number),
             Value::Text(text) => is_text(text.slice()),
-            Value::List(items) => items.len() <= 256 && are_items(items.slice()),
+            Value::List(items) => items.len() <= ITEM_LIMIT && are_items(items.slice()),
         }
     }
 }
