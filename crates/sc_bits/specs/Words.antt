@@ -8,7 +8,8 @@ bit_of words k = bit_at (slice_index words (k / 64)) (k % 64) == 1
 -- the numbers from `from` on, so many of them, that pass the test
 abbrev pub numbers : (ℕ → Bool) → ℕ → ℕ → List ℕ
 numbers test from zero = []
-numbers test from (suc count) = if test from then from ∷ numbers test (from + 1) count else numbers test (from + 1) count
+numbers test from (suc count) =
+    if test from then from ∷ numbers test (from + 1) count else numbers test (from + 1) count
 
 -- there are as many words as the width needs, and they have no bit past it
 pub record Holds (width : ℕ) (words : List ℕ) : Type 0 where

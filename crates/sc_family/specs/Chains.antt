@@ -40,7 +40,8 @@ pub record IsPlaceOf (name : List ℕ) (links : List Link) (place : ℕ) : Type 
 
 -- no two names are the same
 abbrev pub AreDistinct : List (List ℕ) → Type 0
-AreDistinct names = (i j : ℕ) → i < length names → j < length names → slice_index_or names i [] ≡ slice_index_or names j [] → i ≡ j
+AreDistinct names = (i j : ℕ) → i < length names → j < length names
+    → slice_index_or names i [] ≡ slice_index_or names j [] → i ≡ j
 
 -- how the links are found; `ends` gives the end of the chain of a hash
 pub record IsIndexed (links : List Link) (earlier : List ℕ) (ends_at : ℕ → ℕ) : Type 0 where

@@ -64,7 +64,7 @@ fn a_fault_of_a_chart_is_told_with_its_place(rt: HostRuntime) -> Result<(), Fail
     Ok(())
 }
 
-/// A chart of one state, with so many spaces behind it.
+/// A chart of one state, with so many spaces after it.
 fn chart_with(alloc: Global, spaces: usize) -> Result<Vec<u8>, NoMemory> {
     let mut text = Vec::from_slice(alloc, br#"{"tag":"scxml","kids":[{"tag":"state"}]}"#)?;
     for _ in 0..spaces {

@@ -24,7 +24,7 @@ abbrev pub IsBeforeAll : Timed → List Timed → Type 0
 IsBeforeAll t [] = Unit {0}
 IsBeforeAll t (s ∷ ss) = (is_before t s ≡ true) × IsBeforeAll t ss
 
--- each comes due before all that stand behind it
+-- each comes due before all that stand after it
 abbrev pub IsInDueOrder : List Timed → Type 0
 IsInDueOrder [] = Unit {0}
 IsInDueOrder (s ∷ ss) = IsBeforeAll s ss × IsInDueOrder ss

@@ -45,7 +45,10 @@ pub(crate) fn report_of(
 }
 
 fn put_clock(alloc: Global, out: &mut Vec<u8>, image: &HostImage) -> Result<(), NoMemory>
-    ensures { OnOk result (out.new.items ≡ out.old.items ++ line (codes "clock " ++ decimal image.now.clock ++ codes " timers " ++ decimal (length image.now.timers))) }
+    ensures { OnOk result (out.new.items
+        ≡ out.old.items
+        ++ line (codes "clock " ++ decimal image.now.clock
+        ++ codes " timers " ++ decimal (length image.now.timers))) }
 {
     put(out, b"clock ")?;
     put_number(alloc, out, u128::from(image.clock))?;

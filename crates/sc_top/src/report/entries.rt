@@ -59,7 +59,9 @@ fn put_command_line(
     who: Who,
     command: &Command,
 ) -> Result<(), NoMemory>
-    ensures { OnOk result (out.new.items ≡ out.old.items ++ line (decimal number ++ codes " " ++ who_text who ++ codes " " ++ command_text command.now)) }
+    ensures { OnOk result (out.new.items
+        ≡ out.old.items
+        ++ line (decimal number ++ codes " " ++ who_text who ++ codes " " ++ command_text command.now)) }
 {
     put_number(alloc, out, number as u128)?;
     put(out, b" ")?;

@@ -22,7 +22,8 @@ fn put_state(
     tree: Option<&Tree>,
     state: u32,
 ) -> Result<(), NoMemory>
-    ensures { OnOk result (out.new.items ≡ out.old.items ++ state_text (unwrap_or (option_copied tree.entry) bare_chart) state) }
+    ensures { OnOk result (out.new.items
+        ≡ out.old.items ++ state_text (unwrap_or (option_copied tree.entry) bare_chart) state) }
 {
     put(out, b" ")?;
     match id_in(tree, state) {
@@ -35,7 +36,8 @@ fn put_state(
 }
 
 fn id_in<'t>(tree: Option<&'t Tree>, state: u32) -> Option<&'t [u8]>
-    ensures { option_copied result ≡ option_and_then id_of (node_of (unwrap_or (option_copied tree.entry) bare_chart) state) }
+    ensures { option_copied result
+        ≡ option_and_then id_of (node_of (unwrap_or (option_copied tree.entry) bare_chart) state) }
 {
     tree?.id_of(state)
 }
@@ -46,7 +48,8 @@ fn put_ids(
     tree: Option<&Tree>,
     states: &[u32],
 ) -> Result<(), NoMemory>
-    ensures { OnOk result (out.new.items ≡ out.old.items ++ flat_map (state_text (unwrap_or (option_copied tree.entry) bare_chart)) states.now) }
+    ensures { OnOk result (out.new.items
+        ≡ out.old.items ++ flat_map (state_text (unwrap_or (option_copied tree.entry) bare_chart)) states.now) }
 {
     for state in states {
         put_state(alloc, out, tree, *state)?;
@@ -91,7 +94,9 @@ fn put_states(
     state: &SessionState,
 ) -> Result<(), NoMemory>
     requires { IsHeld host.now }
-    ensures { OnOk result (out.new.items ≡ out.old.items ++ flat_map (state_text (chart_named host.now.image state.now.chart)) state.now.configuration) }
+    ensures { OnOk result (out.new.items
+        ≡ out.old.items
+        ++ flat_map (state_text (chart_named host.now.image state.now.chart)) state.now.configuration) }
 {
     let tree = host.tree_named(state.chart.bytes());
     put_ids(alloc, out, tree, state.configuration.slice())
@@ -104,7 +109,10 @@ fn put_active(
     state: &SessionState,
 ) -> Result<(), NoMemory>
     requires { IsHeld host.now }
-    ensures { OnOk result (out.new.items ≡ out.old.items ++ line (codes "live in" ++ flat_map (state_text (chart_named host.now.image state.now.chart)) state.now.configuration)) }
+    ensures { OnOk result (out.new.items
+        ≡ out.old.items
+        ++ line (codes "live in"
+        ++ flat_map (state_text (chart_named host.now.image state.now.chart)) state.now.configuration)) }
 {
     put(out, b"live in")?;
     put_states(alloc, out, host, state)?;
@@ -132,7 +140,8 @@ fn put_phase(
     session: &SessionImage,
 ) -> Result<(), NoMemory>
     requires { IsHeld host.now }
-    ensures { OnOk result (out.new.items ≡ out.old.items ++ phase_text host.now.image session.now session.now.state.phase) }
+    ensures { OnOk result (out.new.items
+        ≡ out.old.items ++ phase_text host.now.image session.now session.now.state.phase) }
 {
     match &session.state.phase {
         Phase::Ended(how) => {
@@ -162,7 +171,8 @@ fn put_session(
 
 pub(crate) fn put_sessions(alloc: Global, out: &mut Vec<u8>, host: &Host) -> Result<(), NoMemory>
     requires { IsHeld host.now }
-    ensures { OnOk result (out.new.items ≡ out.old.items ++ flat_map (session_text host.now.image) host.now.image.sessions) }
+    ensures { OnOk result (out.new.items
+        ≡ out.old.items ++ flat_map (session_text host.now.image) host.now.image.sessions) }
 {
     for session in host.image.sessions.slice() {
         put_session(alloc, out, host, session)?;
