@@ -100,7 +100,7 @@ fn a_failed_read_of_a_chart_is_told(rt: HostRuntime) -> Result<(), Fail> {
 }
 
 #[test]
-fn a_failed_write_of_a_check_leaves_a_front(rt: HostRuntime) -> Result<(), Fail> {
+fn a_failed_write_of_a_check_leaves_its_first_part(rt: HostRuntime) -> Result<(), Fail> {
     let mut source = MemSource::new(
         rt.alloc(),
         br#"{"tag":"scxml","kids":[{"tag":"state"}]}"#,
