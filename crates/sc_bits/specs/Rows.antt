@@ -13,6 +13,7 @@ abbrev pub IsAscending : ℕ → ℕ → List ℕ → Type 0
 IsAscending from width [] = Unit {0}
 IsAscending from width (m ∷ ms) = (from ≤ m) × (m < width) × IsAscending (m + 1) width ms
 
+-- whether a number is a member
 abbrev pub has : ℕ → List ℕ → Bool
 has n members = list_any (λ m. m == n) members
 

@@ -2,6 +2,7 @@
 use Rattle.std.specs.Prelude.{◌≡◌, ℕ, ◌+◌, ◌/◌, ◌%◌, ◌^◌, ◌≤◌, ◌<◌, ◌==◌, Bool, true, false, if◌then◌else◌, zero, suc, List, [], ◌∷◌, length, slice_index}
 use Rattle.std.specs.Int.{bit_at}
 
+-- whether the words have bit k
 abbrev pub bit_of : List ℕ → ℕ → Bool
 bit_of words k = bit_at (slice_index words (k / 64)) (k % 64) == 1
 

@@ -12,6 +12,7 @@ number_field size n = big_bytes size n
 unfoldable pub field_number : ℕ → List ℕ → ℕ
 field_number size bytes = big_number size bytes
 
+-- a signed number as its 8 bytes
 abbrev pub int_field : ℤ → List ℕ
 int_field z = number_field 8 (cast_unsigned w64 z)
 
@@ -31,6 +32,7 @@ abbrev pub number_at : ℕ → List ℕ → ℕ → Option (ℕ × ℕ)
 number_at size piece at =
     if nat_le (at + size) (length piece) then Some (field_number size (drop at piece), at + size) else None
 
+-- the signed number in the 8 bytes at a place, and the place after it
 abbrev pub int_at : List ℕ → ℕ → Option (ℤ × ℕ)
 int_at piece at = option_map (λ f. (cast_signed w64 f.0, f.1)) (number_at 8 piece at)
 
@@ -39,5 +41,6 @@ abbrev pub part_at : List ℕ → ℕ × ℕ → Option (List ℕ × ℕ)
 part_at piece (size, at) =
     if nat_le (at + size) (length piece) then Some (take size (drop at piece), at + size) else None
 
+-- the text whose length and bytes stand at a place, and the place after it
 abbrev pub bytes_at : List ℕ → ℕ → Option (List ℕ × ℕ)
 bytes_at piece at = option_and_then (part_at piece) (number_at 4 piece at)

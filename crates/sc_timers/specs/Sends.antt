@@ -29,6 +29,7 @@ abbrev pub IsInDueOrder : List Timed → Type 0
 IsInDueOrder [] = Unit {0}
 IsInDueOrder (s ∷ ss) = IsBeforeAll s ss × IsInDueOrder ss
 
+-- whether a send is of the session
 abbrev pub is_of : List ℕ → Timed → Bool
 is_of session s = bytes_eq s.session session
 
