@@ -205,7 +205,7 @@ bytes_at-stands at piece f = elim (cases_lt (length piece) (at + 4)) [
       | inr g ↦ rw (test-true (at + 4 + n) (length piece) g) (text-stands at piece f n e g)
     ]
 
--- no answer is not an answer
+-- an absent answer is not a present one
 pub none_some : (xs : List ℕ) (n : ℕ) → ◌≡◌ {A = Option (List ℕ × ℕ)} None (Some (xs, n)) → ⊥
 none_some xs n e = cc
 
