@@ -9,7 +9,7 @@ use sc_types::NoMemory;
 use std::process::ExitCode;
 use std::{env, io};
 
-// The status where memory is wanting, as `top` has it.
+// The status where the program is out of memory, as `top` has it.
 const NO_MEMORY: u8 = 7;
 
 fn main(rt: HostRuntime) -> ExitCode {

@@ -13,9 +13,11 @@ use Rattle.sc_bits.specs.Words.{bit_of}
 abbrev pub is_one : ℕ → Bool
 is_one x = x == 1
 
+-- zero is not one
 pub is_one-zero : (x : ℕ) → x ≡ 0 → is_one x ≡ false
 is_one-zero x e = ap (λ y. y == 1) e
 
+-- one is one
 pub is_one-one : (x : ℕ) → x ≡ 1 → is_one x ≡ true
 is_one-one x e = ap (λ y. y == 1) e
 
@@ -47,6 +49,7 @@ bit_of-past a k h = ap (λ x. bit_at x (k % 64) == 1) (get_or_past a (k / 64) 0 
 
 -- ---- all words at once
 
+-- words that are the bitwise or of two lists of words have the bits of either
 pub bit_of-or : (a b c : List ℕ) → length a ≡ length b → length c ≡ length a
     → ((i : ℕ) → i < length a → get_or c i 0 ≡ bit_or (get_or a i 0) (get_or b i 0))
     → (k : ℕ) → bit_of c k ≡ (bit_of a k || bit_of b k)
@@ -57,6 +60,7 @@ bit_of-or a b c e f h k = elim (cases_lt (k / 64) (length a)) [
   | inr g ↦ bit_of-past c k (omega arith) ∙ ap₂ (λ v w. v || w) (sym (bit_of-past a k g)) (sym (bit_of-past b k (omega arith)))
 ]
 
+-- words that are the bitwise and of two lists of words have the bits that both have
 pub bit_of-and : (a b c : List ℕ) → length a ≡ length b → length c ≡ length a
     → ((i : ℕ) → i < length a → get_or c i 0 ≡ bit_and (get_or a i 0) (get_or b i 0))
     → (k : ℕ) → bit_of c k ≡ (bit_of a k && bit_of b k)
@@ -67,6 +71,7 @@ bit_of-and a b c e f h k = elim (cases_lt (k / 64) (length a)) [
   | inr g ↦ bit_of-past c k (omega arith) ∙ ap₂ (λ v w. v && w) (sym (bit_of-past a k g)) (sym (bit_of-past b k (omega arith)))
 ]
 
+-- words that are the bitwise and of the first list and the complement of the second have the bits of the first alone
 pub bit_of-and_not : (a b c : List ℕ) → length a ≡ length b → length c ≡ length a
     → ((i : ℕ) → i < length b → get_or b i 0 < 2 ^ 64)
     → ((i : ℕ) → i < length a → get_or c i 0 ≡ bit_and (get_or a i 0) (bit_not w64 (get_or b i 0)))
@@ -115,6 +120,7 @@ other_number : (k n : ℕ) → (k / 64 ≢ n / 64) ⊎ (k % 64 ≢ n % 64) → k
 other_number k n (inl h) = λ e. h (ap (λ j. j / 64) e)
 other_number k n (inr h) = λ e. h (ap (λ j. j % 64) e)
 
+-- after a word was written with a bit set, that bit is there and all others are as before
 pub bit_of-set_bit : (words : List ℕ) (n x : ℕ) → n / 64 < length words → get_or words (n / 64) 0 ≡ x
     → (k : ℕ) → bit_of (set words (n / 64) (bit_or x (1 * 2 ^ (n % 64) % 2 ^ 64))) k ≡ (bit_of words k || k == n)
 bit_of-set_bit words n x h e k = elim (same_or_not (k / 64) (n / 64)) [
@@ -127,6 +133,7 @@ bit_of-set_bit words n x h e k = elim (same_or_not (k / 64) (n / 64)) [
   | inr o ↦ bit_of-other_word words (n / 64) _ k o ∙ or-other (bit_of words k) k n (other_number k n (inl o))
 ]
 
+-- after a word was written with a bit cleared, that bit is gone and all others are as before
 pub bit_of-clear_bit : (words : List ℕ) (n x : ℕ) → n / 64 < length words → get_or words (n / 64) 0 ≡ x
     → (k : ℕ) → bit_of (set words (n / 64) (bit_and x (bit_not w64 (1 * 2 ^ (n % 64) % 2 ^ 64)))) k ≡ (bit_of words k && not (k == n))
 bit_of-clear_bit words n x h e k = elim (same_or_not (k / 64) (n / 64)) [
@@ -141,6 +148,7 @@ bit_of-clear_bit words n x h e k = elim (same_or_not (k / 64) (n / 64)) [
 
 -- ---- words that have a bit, or none, in common
 
+-- where no two words at one place have a common bit, the lists have none
 pub bits-none : (a b : List ℕ) → length a ≡ length b → ((i : ℕ) → i < length a → bit_and (get_or a i 0) (get_or b i 0) ≡ 0)
     → (k : ℕ) → (bit_of a k && bit_of b k) ≡ false
 bits-none a b e h k = elim (cases_lt (k / 64) (length a)) [
@@ -153,6 +161,7 @@ bits-none a b e h k = elim (cases_lt (k / 64) (length a)) [
 place_of : (i t : ℕ) → t < 64 → ((i * 64 + t) / 64 ≡ i) × ((i * 64 + t) % 64 ≡ t)
 place_of i t h = (omega arith, omega arith)
 
+-- the bit of the list at word `i`, place `t`, is bit `t` of that word
 pub bit_of-at : (words : List ℕ) (i t : ℕ) → t < 64 → bit_of words (i * 64 + t) ≡ is_one (bit_at (get_or words i 0) t)
 bit_of-at words i t h = ap₂ (λ j s. is_one (bit_at (get_or words j 0) s)) ((place_of i t h).0) ((place_of i t h).1)
 
@@ -161,6 +170,7 @@ and-true true true h = (refl, refl)
 and-true true false h = cc
 and-true false w h = cc
 
+-- where two words at one place have a common bit, the lists have one
 pub bits-common : (a b : List ℕ) (i : ℕ) → bit_and (get_or a i 0) (get_or b i 0) ≢ 0 → bit_and (get_or a i 0) (get_or b i 0) < 2 ^ 64
     → (k : ℕ) × ((bit_of a k && bit_of b k) ≡ true)
 bits-common a b i h f =
@@ -173,6 +183,7 @@ bits-common a b i h f =
           ∙ ap is_one (sym (bit_at_and (get_or a i 0) (get_or b i 0) t) ∙ low.1),
     )
 
+-- words that are all zero have no bits
 pub bit_of-zeros : (a : List ℕ) (n : ℕ) → a ≡ replicate n 0 → (k : ℕ) → bit_of a k ≡ false
 bit_of-zeros a n e k = ap (λ ws. bit_of ws k) e ∙ elim (cases_lt (k / 64) n) [
   | inl l ↦ ap (λ x. is_one (bit_at x (k % 64))) (get_or-replicate n (k / 64) 0 0 l) ∙ ap is_one (bit_at-zero (k % 64))

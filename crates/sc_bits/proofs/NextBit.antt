@@ -17,6 +17,7 @@ none_in_word words place k l h e =
     ap (bit_of words) (let same : k ≡ place * 64 + (k - place * 64) = omega arith in same)
     ∙ bit_of-at words place (k - place * 64) (omega arith) ∙ is_one-zero _ e
 
+-- a word that is zero adds 64 places without a bit
 pub word-zero : (words : List ℕ) (from place : ℕ) → NoneBetween words from (place * 64) → get_or words place 0 ≡ 0
     → NoneBetween words from ((place + 1) * 64)
 word-zero words from place none e k l h = elim (cases_lt k (place * 64)) [
@@ -24,6 +25,7 @@ word-zero words from place none e k l h = elim (cases_lt k (place * 64)) [
   | inr b ↦ none_in_word words place k b h (ap (λ x. bit_at x (k - place * 64)) e ∙ bit_at-zero (k - place * 64))
 ]
 
+-- the first bit from a place on is the lowest one of the first word that is not zero
 pub word-next : (words : List ℕ) (from place : ℕ) → NoneBetween words from (place * 64) → from ≤ place * 64
     → get_or words place 0 ≢ 0 → get_or words place 0 < 2 ^ 64
     → IsNextBit words from (place * 64 + trailing_zeros w64 (get_or words place 0))
@@ -61,6 +63,7 @@ high-below x s i l h =
     ∙ ap (λ m. min (bit_at x i) (bit_at m i)) (ones_shl 64 s within)
     ∙ ap (λ b. min (bit_at x i) b) (bit_at_mask_below s 64 i l) ∙ omega arith
 
+-- where the rest of the first word is zero, there is no bit up to the word's end
 pub rest-zero : (words : List ℕ) (from : ℕ) → bit_and (get_or words (from / 64) 0) ((2 ^ 64 - 1) * 2 ^ (from % 64) % 2 ^ 64) ≡ 0
     → NoneBetween words from ((from / 64 + 1) * 64)
 unfolding high
@@ -69,6 +72,7 @@ rest-zero words from e k l h =
     none_in_word words (from / 64) k (omega arith) h
     (sym (high-from (get_or words (from / 64) 0) (from % 64) j (omega arith) (omega arith)) ∙ ap (λ x. bit_at x j) e ∙ bit_at-zero j)
 
+-- where the rest of the first word is not zero, its lowest bit is the first one
 pub rest-next : (words : List ℕ) (from x : ℕ) → bit_and (get_or words (from / 64) 0) ((2 ^ 64 - 1) * 2 ^ (from % 64) % 2 ^ 64) ≡ x
     → x ≢ 0 → x < 2 ^ 64 → IsNextBit words from (from / 64 * 64 + trailing_zeros w64 x)
 unfolding high

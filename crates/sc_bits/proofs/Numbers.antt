@@ -10,6 +10,7 @@ use Rattle.sc_bits.specs.Words.{numbers}
 put : Bool → ℕ → List ℕ → List ℕ
 put v i ms = cond v (i ∷ ms) ms
 
+-- tests that agree on a range pass the same numbers of it
 pub numbers-same : (f g : ℕ → Bool) (i c : ℕ) → ((k : ℕ) → i ≤ k → k < i + c → f k ≡ g k) → numbers f i c ≡ numbers g i c
 unfolding put
 numbers-same f g i zero h = refl
@@ -18,6 +19,7 @@ numbers-same f g i (suc c) h =
     let later : numbers f (i + 1) c ≡ numbers g (i + 1) c = numbers-same f g (i + 1) c (λ k p q. h k (omega arith) (omega arith)) in
     ap₂ (λ v ms. put v i ms) here later
 
+-- a test that fails on the whole range passes no number
 pub numbers-none : (f : ℕ → Bool) (i c : ℕ) → ((k : ℕ) → i ≤ k → k < i + c → f k ≡ false) → numbers f i c ≡ []
 unfolding put
 numbers-none f i zero h = refl
@@ -26,6 +28,7 @@ numbers-none f i (suc c) h =
     let later : numbers f (i + 1) c ≡ [] = numbers-none f (i + 1) c (λ k p q. h k (omega arith) (omega arith)) in
     ap₂ (λ v ms. put v i ms) here later
 
+-- the numbers that pass are ascending and within the range
 pub numbers-ascending : (f : ℕ → Bool) (j i c w : ℕ) → j ≤ i → i + c ≤ w → IsAscending j w (numbers f i c)
 numbers-ascending f j i zero w a b = tt
 numbers-ascending f j i (suc c) w a b =
@@ -41,6 +44,7 @@ unfolding put
 filter-put p true i ms = refl
 filter-put p false i ms = refl
 
+-- filtering the numbers that pass one test gives those that pass both
 pub filter-numbers : (p f : ℕ → Bool) (i c : ℕ) → filter p (numbers f i c) ≡ numbers (λ k. f k && p k) i c
 unfolding put
 filter-numbers p f i zero = refl
@@ -52,6 +56,7 @@ unfolding put
 any-put p true i ms = refl
 any-put p false i ms = refl
 
+-- where no number of the range passes both tests, none of those that pass the first passes the second
 pub any-none : (p f : ℕ → Bool) (i c : ℕ) → ((k : ℕ) → i ≤ k → k < i + c → (f k && p k) ≡ false) → list_any p (numbers f i c) ≡ false
 unfolding put
 any-none p f i zero h = refl
@@ -64,6 +69,7 @@ or-true : (v w : Bool) → w ≡ true → (v || w) ≡ true
 or-true true w h = refl
 or-true false w h = h
 
+-- where a number of the range passes both tests, one of those that pass the first passes the second
 pub any-found : (p f : ℕ → Bool) (i c k : ℕ) → i ≤ k → k < i + c → (f k && p k) ≡ true → list_any p (numbers f i c) ≡ true
 unfolding put
 any-found p f i zero k r q h = absurd (omega arith)
@@ -77,6 +83,7 @@ any-found p f i (suc c) k r q h = any-put p (f i) i (numbers f (i + 1) c) ∙ el
 
 -- ---- contains
 
+-- a number below the range is not among those that pass
 pub has-below : (f : ℕ → Bool) (i c n : ℕ) → n < i → contains (numbers f i c) n ≡ false
 has-below f i c n h = any-none (λ m. m == n) f i c (λ k r q. by (f k) k r)
   where
@@ -92,6 +99,7 @@ has-other : (v : Bool) (k n : ℕ) → k ≢ n → (v && k == n) ≡ false
 has-other true k n h = grind (arith, nat_tests)
 has-other false k n h = refl
 
+-- a number of the range is among those that pass exactly where it passes
 pub has-numbers : (f : ℕ → Bool) (i c n : ℕ) → i ≤ n → n < i + c → contains (numbers f i c) n ≡ f n
 has-numbers f i c n r q = by (f n) refl
   where
@@ -140,6 +148,7 @@ or-none : (v : Bool) (k n : ℕ) → k ≢ n → (v || k == n) ≡ v
 or-none true k n h = refl
 or-none false k n h = grind (arith, nat_tests)
 
+-- adding a number of the range gives the numbers of a test that passes it too
 pub with_number-numbers : (f : ℕ → Bool) (i c n : ℕ) → i ≤ n → n < i + c
     → with_number n (numbers f i c) ≡ numbers (λ k. f k || k == n) i c
 unfolding put
@@ -228,6 +237,7 @@ from-zero true u k = refl
 from-zero false true k = grind (arith, nat_tests)
 from-zero false false k = refl
 
+-- joining the numbers of two tests gives those of their disjunction
 pub joined-numbers : (f g : ℕ → Bool) (w : ℕ) → joined (numbers f 0 w) (numbers g 0 w) ≡ numbers (λ k. f k || g k) 0 w
 unfolding from
 joined-numbers f g w = joined-from f g w 0 w (omega arith) ∙ numbers-same (from f g 0) (λ k. f k || g k) 0 w (λ k a b. from-zero (f k) (g k) k)
@@ -239,6 +249,7 @@ unfolding put
 find-put p true i ms = refl
 find-put p false i ms = refl
 
+-- where no number of the range passes both tests, none is found
 pub find-none : (p f : ℕ → Bool) (i c : ℕ) → ((k : ℕ) → i ≤ k → k < i + c → (f k && p k) ≡ false) → find p (numbers f i c) ≡ None
 unfolding put
 find-none p f i zero h = refl
@@ -247,6 +258,7 @@ find-none p f i (suc c) h =
     find-put p (f i) i (numbers f (i + 1) c) ∙ ap (λ v. cond v (Some i) (find p (numbers f (i + 1) c))) here
     ∙ find-none p f (i + 1) c (λ k a b. h k (omega arith) (omega arith))
 
+-- the first number of the range that passes both tests is the one that is found
 pub find-found : (p f : ℕ → Bool) (i c n : ℕ) → i ≤ n → n < i + c → (f n && p n) ≡ true
     → ((k : ℕ) → i ≤ k → k < n → (f k && p k) ≡ false) → find p (numbers f i c) ≡ Some n
 unfolding put

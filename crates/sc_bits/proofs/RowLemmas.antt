@@ -15,9 +15,11 @@ members_of width words = numbers (bit_of words) 0 width
 abbrev pub as_row : ℕ → List ℕ → RowOf
 as_row width ms = record { width = width; members = ms }
 
+-- rows of one width with equal members are equal
 pub same_row : (width : ℕ) (xs ys : List ℕ) → xs ≡ ys → as_row width xs ≡ as_row width ys
 same_row width xs ys e = ap (as_row width) e
 
+-- setting a bit adds its number to the members
 pub members-set : (w n : ℕ) (old mid new : List ℕ) → n < w → mid ≡ old → ((k : ℕ) → bit_of new k ≡ (bit_of mid k || k == n))
     → members_of w new ≡ with_number n (members_of w old)
 members-set w n old mid new l e h =
@@ -25,6 +27,7 @@ members-set w n old mid new l e h =
     ∙ sym (with_number-numbers (bit_of mid) 0 w n (omega arith) (omega arith))
     ∙ ap (λ ws. with_number n (members_of w ws)) e
 
+-- clearing a bit removes its number from the members
 pub members-clear : (w n : ℕ) (old mid new : List ℕ) → mid ≡ old → ((k : ℕ) → bit_of new k ≡ (bit_of mid k && not (k == n)))
     → members_of w new ≡ filter (λ m. not (m == n)) (members_of w old)
 members-clear w n old mid new e h =
@@ -32,9 +35,11 @@ members-clear w n old mid new e h =
     ∙ sym (filter-numbers (λ m. not (m == n)) (bit_of mid) 0 w)
     ∙ ap (λ ws. filter (λ m. not (m == n)) (members_of w ws)) e
 
+-- without bits there are no members
 pub members-none : (w : ℕ) (new : List ℕ) → ((k : ℕ) → bit_of new k ≡ false) → members_of w new ≡ []
 members-none w new h = numbers-none (bit_of new) 0 w (λ k a b. h k)
 
+-- the bits of either row give the members of either
 pub members-join : (w v : ℕ) (old mid new other also : List ℕ) → w ≡ v → mid ≡ old → also ≡ other
     → ((k : ℕ) → bit_of new k ≡ (bit_of mid k || bit_of also k))
     → members_of w new ≡ joined (members_of w old) (members_of v other)
@@ -44,9 +49,11 @@ members-join w v old mid new other also g e f h =
     ∙ ap (λ ws. joined (members_of w ws) (members_of w also)) e ∙ ap (λ ws. joined (members_of w old) (members_of w ws)) f
     ∙ ap (λ u. joined (members_of w old) (members_of u other)) g
 
+-- a number below the width is a member exactly where its bit is set
 pub has-member : (w n : ℕ) (words : List ℕ) → n < w → contains (members_of w words) n ≡ bit_of words n
 has-member w n words h = has-numbers (bit_of words) 0 w n (omega arith) (omega arith)
 
+-- the bits of both rows give the members that the other row has
 pub members-meet : (w v : ℕ) (old mid new other also : List ℕ) → w ≡ v → mid ≡ old → also ≡ other
     → ((k : ℕ) → bit_of new k ≡ (bit_of mid k && bit_of also k))
     → members_of w new ≡ filter (λ m. contains (members_of v other) m) (members_of w old)
@@ -58,6 +65,7 @@ members-meet w v old mid new other also g e f h =
     ∙ ap (λ ws. filter (λ m. contains (members_of w ws) m) (members_of w old)) f
     ∙ ap (λ u. filter (λ m. contains (members_of u other) m) (members_of w old)) g
 
+-- the bits that the other row lacks give the members that it lacks
 pub members-minus : (w v : ℕ) (old mid new other also : List ℕ) → w ≡ v → mid ≡ old → also ≡ other
     → ((k : ℕ) → bit_of new k ≡ (bit_of mid k && not (bit_of also k)))
     → members_of w new ≡ filter (λ m. not (contains (members_of v other) m)) (members_of w old)
@@ -76,6 +84,7 @@ common_within w words v k h e = elim (cases_lt k w) [
   | inr g ↦ (let no : (bit_of words k && v) ≡ false = ap (λ u. u && v) (h.within k g) in cc)
 ]
 
+-- two rows have a common bit exactly where a member of the one is a member of the other
 pub meets-members : (w v : ℕ) (words other : List ℕ) (result : Bool) → w ≡ v → Holds w words
     → MatchBool result ((k : ℕ) × ((bit_of words k && bit_of other k) ≡ true)) ((k : ℕ) → (bit_of words k && bit_of other k) ≡ false)
     → result ≡ list_any (λ m. contains (members_of v other) m) (members_of w words)
@@ -100,6 +109,7 @@ le-false n k true h = elim (cases_lt k n) [
   | inr g ↦ (let no : true ≡ false = h g in cc)
 ]
 
+-- the first bit from a place on is the first member from that number on
 pub next-member : (w n : ℕ) (words : List ℕ) (result : Option ℕ) → Holds w words
     → MatchOption result ((k : ℕ) → n ≤ k → bit_of words k ≡ false) (IsNextBit words n)
     → result ≡ find (λ m. nat_le n m) (members_of w words)
@@ -109,6 +119,7 @@ next-member w n words (Some m) h i =
     sym (find-found (λ j. nat_le n j) (bit_of words) 0 w m (omega arith) (omega arith) (le-true n m (bit_of words m) i.later i.set)
     (λ k a b. le-false n k (bit_of words k) (λ l. i.first k l b)))
 
+-- the member that is found is not below the place, and is below the width
 pub next-within : (w n : ℕ) (words : List ℕ) (result : Option ℕ) → Holds w words
     → MatchOption result ((k : ℕ) → n ≤ k → bit_of words k ≡ false) (IsNextBit words n)
     → IfSome result (λ m. (n ≤ m) × (m < w))

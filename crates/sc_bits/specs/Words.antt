@@ -2,13 +2,15 @@
 use Rattle.std.specs.Prelude.{◌≡◌, ℕ, ◌+◌, ◌/◌, ◌%◌, ◌^◌, ◌≤◌, ◌<◌, ◌==◌, Bool, true, false, if◌then◌else◌, zero, suc, List, [], ◌∷◌, length, slice_index}
 use Rattle.std.specs.Int.{bit_at}
 
+-- whether the words have bit k
 abbrev pub bit_of : List ℕ → ℕ → Bool
 bit_of words k = bit_at (slice_index words (k / 64)) (k % 64) == 1
 
 -- the numbers from `from` on, so many of them, that pass the test
 abbrev pub numbers : (ℕ → Bool) → ℕ → ℕ → List ℕ
 numbers test from zero = []
-numbers test from (suc count) = if test from then from ∷ numbers test (from + 1) count else numbers test (from + 1) count
+numbers test from (suc count) =
+    if test from then from ∷ numbers test (from + 1) count else numbers test (from + 1) count
 
 -- there are as many words as the width needs, and they have no bit past it
 pub record Holds (width : ℕ) (words : List ℕ) : Type 0 where

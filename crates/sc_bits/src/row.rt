@@ -89,7 +89,8 @@ impl Row {
     /// Takes all members of the other row out.
     pub fn minus(&mut self, other: &Row)
         requires { self.old.width ≡ other.now.width }
-        ensures { self.new ≡ record self.old { members = filter (λ m. not (contains other.now.members m)) self.old.members } }
+        ensures { self.new
+            ≡ record self.old { members = filter (λ m. not (contains other.now.members m)) self.old.members } }
     {
         minus_words(self.words.as_mut_slice(), other.words.as_slice());
     }

@@ -61,7 +61,8 @@ pub fn clear_words(words: &mut [u64])
 // Whether both have a bit in common.
 pub fn words_meet(words: &[u64], other: &[u64]) -> bool
     requires { length words.now ≡ length other.now }
-    ensures { MatchBool result ((k : ℕ) × ((bit_of words.now k && bit_of other.now k) ≡ true)) ((k : ℕ) → (bit_of words.now k && bit_of other.now k) ≡ false) }
+    ensures { MatchBool result ((k : ℕ) × ((bit_of words.now k && bit_of other.now k) ≡ true))
+        ((k : ℕ) → (bit_of words.now k && bit_of other.now k) ≡ false) }
 {
     for i in 0..words.len() {
         if words[i] & other[i] != 0 {

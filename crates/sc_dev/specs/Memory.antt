@@ -9,6 +9,7 @@ pub record CallsOf : Type 0 where
   pub failing : List ℕ
   pub faults : ℕ
 
+-- no call so far, and the numbers of those that fail
 abbrev pub no_calls : List ℕ → CallsOf
 no_calls failing = record { made = 0; failing = failing; faults = 0 }
 
@@ -34,6 +35,7 @@ pub record SourceOf : Type 0 where
 abbrev pub read_count : SourceOf → ℕ → Option ℕ
 read_count s room = if is_next_failing s.calls then None else Some (min (min room s.most) (length s.left))
 
+-- the source after a read that gave so many bytes, or failed
 abbrev pub after_read : SourceOf → Option ℕ → SourceOf
 after_read s None = record s { calls = failed s.calls }
 after_read s (Some n) = record s { left = drop n s.left; calls = counted s.calls }
@@ -50,6 +52,7 @@ abbrev pub write_count : SinkOf → ℕ → Option ℕ
 write_count s size = if is_next_failing s.calls then None
     else (if nat_lt (length s.taken) s.room then Some (min (min size s.most) (s.room - length s.taken)) else None)
 
+-- the sink after a write of a piece of which it took so many bytes, or failed
 abbrev pub after_write : SinkOf → List ℕ → Option ℕ → SinkOf
 after_write s piece None = record s { calls = failed s.calls }
 after_write s piece (Some n) = record s { taken = s.taken ++ take n piece; calls = counted s.calls }

@@ -3,13 +3,13 @@
 use Rattle.std.specs.Prelude.{ℕ, ◌<◌, ◌≤◌, Option, List, length, take}
 use Rattle.std.specs.Io.KnownBytes.{Appends, Consumes}
 
--- some bytes were consumed from the front, at most so many
+-- the first bytes were consumed, at most so many
 pub record ConsumesUpTo (most : ℕ) (old new : Option (List ℕ)) : Type 0 where
   pub bytes : List ℕ
   pub few : length bytes ≤ most
   pub consumed : Consumes old new bytes
 
--- a front of the text was taken, but not all of it
+-- the first part of the text was taken, but not all of it
 pub record AppendsPart (old new : Option (List ℕ)) (text : List ℕ) : Type 0 where
   pub count : ℕ
   pub part : count < length text

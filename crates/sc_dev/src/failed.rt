@@ -15,7 +15,7 @@ impl fmt::Display for Failed {
 
 impl Error for Failed {}
 
-/// Why a source was not read: it failed, or memory was wanting.
+/// Why a source was not read: it failed, or the program was out of memory.
 #[derive(Clone, Copy, Debug, PartialEq, Eq)]
 pub enum ReadFault {
     Failed,

@@ -71,7 +71,8 @@ impl Sink for MemSink {
         ensures bytes { IfOk result (λ n. Appends (Some self.old.taken) (Some self.new.taken) (take n piece.now)) }
         ensures failed { OnErr result (Keeps (Some self.old.taken) (Some self.new.taken)) }
         ensures cause { HasCause self.old.calls.faults self.new.calls.faults result }
-        ensures count { let n = write_count self.old (length piece.now) in MatchResult result (λ m. n ≡ Some m) (λ _. n ≡ None) }
+        ensures count { let n = write_count self.old (length piece.now) in
+            MatchResult result (λ m. n ≡ Some m) (λ _. n ≡ None) }
         ensures after { self.new ≡ after_write self.old piece.now (write_count self.old (length piece.now)) }
     {
         if self.calls.is_next_failing() || self.bytes.len() >= self.room {

@@ -63,7 +63,8 @@ impl Source for MemSource {
         ensures end { result ≡ Ok 0 → IsAtEnd (Some self.old.left) }
         ensures failed { OnErr result (Keeps (Some self.old.left) (Some self.new.left)) }
         ensures cause { HasCause self.old.calls.faults self.new.calls.faults result }
-        ensures count { let n = read_count self.old (length into.old) in MatchResult result (λ m. n ≡ Some m) (λ _. n ≡ None) }
+        ensures count { let n = read_count self.old (length into.old) in
+            MatchResult result (λ m. n ≡ Some m) (λ _. n ≡ None) }
         ensures after { self.new ≡ after_read self.old (read_count self.old (length into.old)) }
     {
         if self.calls.is_next_failing() {

@@ -12,7 +12,7 @@ pub trait Sink {
 
     ghost faults: { Self → ℕ };
 
-    /// Takes at least one byte from the front of the piece, and says how many.
+    /// Takes at least the first byte of the piece, and says how many bytes it took.
     fn write(&mut self, piece: &[u8]) -> Result<usize, Failed>
         requires { 0 < length piece.now }
         ensures some { IfOk result (λ n. 0 < n) }

@@ -38,6 +38,7 @@ pub record Searches (links : List Link) (name : List ℕ) (at : ℕ) : Type 0 wh
   pub later : (i : ℕ) → at ≤ i → i < length links → get_or (names_of links) i [] ≢ name
   pub own : 0 < at → get_or (hashes_of links) (at - 1) 0 ≡ hash_of name
 
+-- a search that begins at the last link of a hash has passed over no link of that name
 pub search-starts : (links : List Link) (name : List ℕ) (end : ℕ) → IsLast (hashes_of links) (length links) (hash_of name) end → Searches links name end
 search-starts links name end l = record {
   within = l.within;
@@ -45,6 +46,7 @@ search-starts links name end l = record {
   own = l.own;
 }
 
+-- a search goes on with the link before, where the one that it looked at has another name
 pub search-goes_on : (links : List Link) (earlier : List ℕ) (name : List ℕ) (at : ℕ) → IsChained (hashes_of links) earlier → Searches links name at
     → 0 < at → get_or (names_of links) (at - 1) [] ≢ name → Searches links name (get_or earlier (at - 1) 0)
 search-goes_on links earlier name at c s positive n =
@@ -64,11 +66,13 @@ search-goes_on links earlier name at c s positive n =
       own = λ p. l.own p ∙ hash;
     }
 
+-- where the test of a child's name is true, the link at that place has the name
 pub name_of-true : (links : List Link) (name : List ℕ) (i : ℕ) (l : Link) → i < length links → l ≡ get_or links i l → true ≡ is_child name l
     → get_or (names_of links) i [] ≡ name
 name_of-true links name i l h e t =
     get_or-map (λ (link : Link). link.child) links i l [] h ∙ ap (λ (link : Link). link.child) (sym e) ∙ (bytes_decides l.child name).0 (sym t)
 
+-- where it is false, the link at that place has another name
 pub name_of-false : (links : List Link) (name : List ℕ) (i : ℕ) (l : Link) → i < length links → l ≡ get_or links i l → false ≡ is_child name l
     → get_or (names_of links) i [] ≢ name
 name_of-false links name i l h e t = λ f.
@@ -88,6 +92,7 @@ is_child-no name l h = not_true (is_child name l) (λ e. h ((bytes_decides l.chi
 is_child-yes : (name : List ℕ) (l : Link) → l.child ≡ name → is_child name l ≡ true
 is_child-yes name l h = (bytes_decides l.child name).1 h
 
+-- a new name has no link
 pub link_for-new : (name : List ℕ) (links : List Link) → IsNew name links → link_for name links ≡ None
 link_for-new name [] h = refl
 link_for-new name (l ∷ links) h =
@@ -105,6 +110,7 @@ first_new name l links e = by (is_child name l) refl e
     by true t f = cc
     by false t f = ((λ g. let yes = is_child-yes name l g in cc), f)
 
+-- a name without a link is new
 pub new-link_for : (name : List ℕ) (links : List Link) → link_for name links ≡ None → IsNew name links
 new-link_for name [] e = λ i h. absurd (omega arith)
 new-link_for name (l ∷ links) e =
@@ -129,6 +135,7 @@ rest_new name x links d e i h = λ f.
     let same : suc i ≡ 0 = d (suc i) 0 (omega (arith, length-names links)) (omega arith) (f ∙ sym e) in
     omega arith
 
+-- where names are distinct, the link at a name's place is the link of the name
 pub link_for-place : (name : List ℕ) (links : List Link) (place : ℕ) (l : Link) → AreDistinct (names_of links) → IsPlaceOf name links place
     → get_or links place l ≡ l → link_for name links ≡ Some l
 link_for-place name [] place l d p e = absurd (omega (arith, p.within))
@@ -143,6 +150,7 @@ link_for-place name (x ∷ links) (suc place) l d p e =
 cut_link : Link → Link
 cut_link l = record l { cut = true }
 
+-- cutting off a new name changes nothing
 pub cut_off-new : (name : List ℕ) (links : List Link) → IsNew name links → cut_off name links ≡ links
 unfolding cut_link
 cut_off-new name [] h = refl
@@ -150,6 +158,7 @@ cut_off-new name (l ∷ links) h =
     ap (λ v. cond v (cut_link l) l ∷ cut_off name links) (is_child-no name l (h 0 (omega arith)))
     ∙ ap (λ ls. l ∷ ls) (cut_off-new name links (λ i b. h (suc i) (omega arith)))
 
+-- where names are distinct, cutting off a name marks the link at its place
 pub cut_off-place : (name : List ℕ) (links : List Link) (place : ℕ) (l : Link) → AreDistinct (names_of links) → IsPlaceOf name links place
     → get_or links place l ≡ l → cut_off name links ≡ set links place (record l { cut = true })
 unfolding cut_link
@@ -162,9 +171,11 @@ cut_off-place name (x ∷ links) (suc place) l d p e =
     ap (λ v. cond v (cut_link x) x ∷ cut_off name links) (is_child-no name x (first_other name x links place d p))
     ∙ ap (λ ls. x ∷ ls) (cut_off-place name links place l (distinct_rest x links d) (place_rest name x links place p) e)
 
+-- a new name is not live
 pub is_live-new : (name : List ℕ) (links : List Link) → IsNew name links → is_live name links ≡ false
 is_live-new name links h = ap (λ o. option_map_or (λ (link : Link). not link.cut) o false) (link_for-new name links h)
 
+-- where names are distinct, a name is live exactly where the link at its place is not cut
 pub is_live-place : (name : List ℕ) (links : List Link) (place : ℕ) (l : Link) → AreDistinct (names_of links) → IsPlaceOf name links place
     → get_or links place l ≡ l → is_live name links ≡ not l.cut
 is_live-place name links place l d p e = ap (λ o. option_map_or (λ (link : Link). not link.cut) o false) (link_for-place name links place l d p e)
@@ -179,6 +190,7 @@ hashes-set [] place l m e f = refl
 hashes-set (x ∷ links) zero l m e f = ap (λ n. hash_of n ∷ hashes_of links) (f ∙ sym (ap (λ (y : Link). y.child) e))
 hashes-set (x ∷ links) (suc place) l m e f = ap (λ ns. hash_of x.child ∷ ns) (hashes-set links place l m e f)
 
+-- a link that is replaced by one of the same child stays indexed
 pub indexed-set : (links : List Link) (earlier : List ℕ) (ends_at : ℕ → ℕ) (place : ℕ) (l m : Link) → get_or links place l ≡ l → m.child ≡ l.child
     → IsIndexed links earlier ends_at → IsIndexed (set links place m) earlier ends_at
 indexed-set links earlier ends_at place l m e f x =
@@ -279,6 +291,7 @@ distinct-append names name d new i j a b f =
       ]
     ]
 
+-- a link of a new name that is appended and entered as the last of its hash is indexed
 pub indexed-bind : (links : List Link) (earlier : List ℕ) (ends_at new_ends : ℕ → ℕ) (l : Link) (before : ℕ) → IsIndexed links earlier ends_at
     → IsNew l.child links → before ≡ ends_at (hash_of l.child)
     → ((h : ℕ) → new_ends h ≡ cond (h == hash_of l.child) (length links + 1) (ends_at h))

@@ -12,9 +12,11 @@ hash_of bytes = fold (λ hash byte. bit_xor hash byte * 1099511628211 % 2 ^ 64) 
 abbrev pub end_of : {S : Type 0} → HashMap ℕ ℕ S → ℕ → ℕ
 end_of ends hash = unwrap_or (get nat_eq ends hash) 0
 
+-- the names of the children, in the order of the links
 abbrev pub names_of : List Link → List (List ℕ)
 names_of links = map (λ (link : Link). link.child) links
 
+-- the hashes of the children's names
 abbrev pub hashes_of : List Link → List ℕ
 hashes_of links = map (λ (link : Link). hash_of link.child) links
 
@@ -40,7 +42,8 @@ pub record IsPlaceOf (name : List ℕ) (links : List Link) (place : ℕ) : Type 
 
 -- no two names are the same
 abbrev pub AreDistinct : List (List ℕ) → Type 0
-AreDistinct names = (i j : ℕ) → i < length names → j < length names → slice_index_or names i [] ≡ slice_index_or names j [] → i ≡ j
+AreDistinct names = (i j : ℕ) → i < length names → j < length names
+    → slice_index_or names i [] ≡ slice_index_or names j [] → i ≡ j
 
 -- how the links are found; `ends` gives the end of the chain of a hash
 pub record IsIndexed (links : List Link) (earlier : List ℕ) (ends_at : ℕ → ℕ) : Type 0 where

@@ -9,6 +9,7 @@ pub record FamilyOf : Type 0 where
   pub links : List Link
   pub spare : ℕ
 
+-- whether a link is that of the child
 abbrev pub is_child : List ℕ → Link → Bool
 is_child child link = bytes_eq link.child child
 

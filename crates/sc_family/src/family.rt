@@ -31,7 +31,8 @@ impl Model for Family {
 
     ghost view = { λ f. record { links = f.links.items; spare = f.spare } };
 
-    ghost invariant = { λ f. IsIndexed f.links.items f.earlier.items (end_of f.ends) × HasRoom f.spare (length f.links.items) (vec_capacity f.links) (vec_capacity f.earlier) (map_room f.ends) };
+    ghost invariant = { λ f. IsIndexed f.links.items f.earlier.items (end_of f.ends)
+        × HasRoom f.spare (length f.links.items) (vec_capacity f.links) (vec_capacity f.earlier) (map_room f.ends) };
 }
 
 fn push_reserved<T: Drop>(items: &mut Vec<T>, item: T)
@@ -59,7 +60,7 @@ impl Family {
         }
     }
 
-    /// Makes room for at least so many more links. Where memory is wanting nothing is changed.
+    /// Makes room for at least so many more links. Out of memory, nothing is changed.
     pub fn reserve(&mut self, count: usize) -> Result<(), NoMemory>
         ensures links { self.new.links ≡ self.old.links }
         ensures spare { self.old.spare ≤ self.new.spare }

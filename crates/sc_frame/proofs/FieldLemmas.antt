@@ -15,10 +15,12 @@ use Rattle.byteorder.specs.Endian.{big_from, big_number}
 use Rattle.byteorder.specs.Numbers.{big_from-cons, big_from-lt, big_number-reads_back, length-bytes_high_first}
 use Rattle.sc_frame.specs.Fields.{number_field, int_field, bytes_field, field_number, StandsAt, number_at, int_at, part_at, bytes_at}
 
+-- the field of a number has as many bytes as its size says
 pub length-number_field : (size n : ℕ) → length (number_field size n) ≡ size
 unfolding number_field
 length-number_field size n = length-bytes_high_first size n
 
+-- a number that fits is read from its own field, whatever follows
 pub field_number-of_field : (size n : ℕ) (rest : List ℕ) → n < 256 ^ size → field_number size (number_field size n ++ rest) ≡ n
 unfolding number_field field_number
 field_number-of_field size n rest h = big_number-reads_back size n rest h
@@ -68,6 +70,7 @@ bytes-big_from (suc n) (x ∷ xs) h f =
     ap (λ y. bytes_high_first n (x * 256 ^ y + low)) exponent ∙ bytes-above n 0 x low ∙ bytes-big_from n xs (omega arith) (λ k. f (suc k)) in
     ap (bytes_high_first (suc n)) number ∙ ap₂ (λ y ys. y ∷ ys) top rest
 
+-- the field of the number that bytes spell is these bytes
 pub number_field-of_number : (size : ℕ) (bytes : List ℕ) → size ≤ length bytes → ((k : ℕ) → get_or bytes k 0 < 256)
     → number_field size (field_number size bytes) ≡ take size bytes
 unfolding number_field field_number
@@ -98,6 +101,7 @@ test-true n m h = grind (arith, nat_tests)
 test-false : (n m : ℕ) → m < n → nat_le n m ≡ false
 test-false n m h = grind (arith, nat_tests)
 
+-- where the field of a number stands, that number is read
 pub number_at-put : (size n at : ℕ) (piece : List ℕ) → n < 256 ^ size → StandsAt (number_field size n) piece at
     → number_at size piece at ≡ Some (n, at + size)
 number_at-put size n at piece h s =
@@ -114,6 +118,7 @@ number-stands size at piece f h =
     stands_at (number_field size (field_number size (drop at piece))) piece at size h
     (number_field-of_number size (drop at piece) long (λ k. rw (get_or-drop at piece k 0) (f (at + k))))
 
+-- the field of the number that is read stands where it was read
 pub number_at-stands : (size at : ℕ) (piece : List ℕ) → ((k : ℕ) → get_or piece k 0 < 256)
     → IfSome (number_at size piece at) (λ f. StandsAt (number_field size f.0) piece at)
 number_at-stands size at piece f = elim (cases_lt (length piece) (at + size)) [
@@ -127,6 +132,7 @@ cast_unsigned-fits : (z : ℤ) → FitsSigned w64 z → cast_unsigned w64 z < 2 
 cast_unsigned-fits (pos n) h = omega (arith, h)
 cast_unsigned-fits (negsuc n) h = omega (arith, h)
 
+-- where the field of a signed number stands, that number is read
 pub int_at-put : (z : ℤ) (at : ℕ) (piece : List ℕ) → FitsSigned w64 z → StandsAt (int_field z) piece at → int_at piece at ≡ Some (z, at + 8)
 int_at-put z at piece h s =
     ap (option_map (λ f. (cast_signed w64 f.0, f.1))) (number_at-put 8 (cast_unsigned w64 z) at piece (cast_unsigned-fits z h) s)
@@ -136,6 +142,7 @@ field_number-fits : (size : ℕ) (bytes : List ℕ) → ((k : ℕ) → get_or by
 unfolding field_number
 field_number-fits size bytes f = big_from-lt 0 size bytes f
 
+-- the field of the signed number that is read stands where it was read
 pub int_at-stands : (at : ℕ) (piece : List ℕ) → ((k : ℕ) → get_or piece k 0 < 256)
     → IfSome (int_at piece at) (λ f. StandsAt (int_field f.0) piece at)
 int_at-stands at piece f = elim (cases_lt (length piece) (at + 8)) [
@@ -153,6 +160,7 @@ part_at-put b at piece s =
     ap (λ v. cond v (Some (take (length b) (drop at piece), at + length b)) None) (test-true (at + length b) (length piece) (length-stands b piece at s))
     ∙ ap (λ xs. Some (xs, at + length b)) (ap (take (length b)) (drop-stands b piece at s) ∙ take-append_seam b s.after)
 
+-- where the field of a text stands, that text is read
 pub bytes_at-put : (b : List ℕ) (at : ℕ) (piece : List ℕ) → length b < 2 ^ 32 → StandsAt (bytes_field b) piece at
     → bytes_at piece at ≡ Some (b, at + 4 + length b)
 bytes_at-put b at piece h s =
@@ -183,6 +191,7 @@ text-stands at piece f n e h =
     stands_at (bytes_field b) piece at (4 + n) (omega arith)
     (ap (λ xs. xs ++ b) size ∙ ap (λ xs. take 4 (drop at piece) ++ take n xs) (sym (drop-drop 4 at piece)) ∙ sym (take-add 4 n (drop at piece)))
 
+-- the field of the text that is read stands where it was read
 pub bytes_at-stands : (at : ℕ) (piece : List ℕ) → ((k : ℕ) → get_or piece k 0 < 256)
     → IfSome (bytes_at piece at) (λ f. StandsAt (bytes_field f.0) piece at)
 bytes_at-stands at piece f = elim (cases_lt (length piece) (at + 4)) [
@@ -196,9 +205,11 @@ bytes_at-stands at piece f = elim (cases_lt (length piece) (at + 4)) [
       | inr g ↦ rw (test-true (at + 4 + n) (length piece) g) (text-stands at piece f n e g)
     ]
 
+-- an absent answer is not a present one
 pub none_some : (xs : List ℕ) (n : ℕ) → ◌≡◌ {A = Option (List ℕ × ℕ)} None (Some (xs, n)) → ⊥
 none_some xs n e = cc
 
+-- equal answers have equal parts
 pub some_pair : (xs ys : List ℕ) (m n : ℕ) → ◌≡◌ {A = Option (List ℕ × ℕ)} (Some (xs, m)) (Some (ys, n)) → (xs ≡ ys) × (m ≡ n)
 some_pair xs ys m n e =
     let first : Option (List ℕ × ℕ) → List ℕ = λ o. (unwrap_or o (xs, m)).0 in
@@ -207,9 +218,11 @@ some_pair xs ys m n e =
 
 -- ---- what the code reads
 
+-- no number is read where the piece is too short
 pub number_at-short : (size at : ℕ) (piece : List ℕ) → length piece < at + size → None ≡ number_at size piece at
 number_at-short size at piece h = ap (λ v. cond v (Some (field_number size (drop at piece), at + size)) None) (sym (test-false (at + size) (length piece) h))
 
+-- the number that the code makes of the bytes at a place is the one that is read there
 pub number_at-read : (size at r : ℕ) (piece : List ℕ) → at + size ≤ length piece → r ≡ big_number size (take (length piece - at) (drop at piece))
     → Some (r, at + size) ≡ number_at size piece at
 unfolding field_number
@@ -229,12 +242,15 @@ int_at-read at r piece f h e =
     ∙ ap (λ m. Some (cast_signed w64 m, at + 8)) (of_z-to_z w64 n fits)
     ∙ ap (option_map (λ x. (cast_signed w64 x.0, x.1))) (number_at-read 8 at n piece h (ap (big_number 8) (sym (take_rest piece at))))
 
+-- no signed number is read where the piece is too short
 pub int_at-short : (at : ℕ) (piece : List ℕ) → length piece < at + 8 → None ≡ int_at piece at
 int_at-short at piece h = ap (option_map (λ f. (cast_signed w64 f.0, f.1))) (number_at-short 8 at piece h)
 
+-- no part is cut out where the piece is too short
 pub part_at-short : (size at : ℕ) (piece : List ℕ) → length piece < at + size → None ≡ part_at piece (size, at)
 part_at-short size at piece h = ap (λ v. cond v (Some (take size (drop at piece), at + size)) None) (sym (test-false (at + size) (length piece) h))
 
+-- the part that the code cuts out is the one that stands there
 pub part_at-read : (size at : ℕ) (piece : List ℕ) → at + size ≤ length piece → Some (take (at + size - at) (drop at piece), at + size) ≡ part_at piece (size, at)
 part_at-read size at piece h =
     let same : at + size - at ≡ size = omega arith in
@@ -248,6 +264,7 @@ number-told size at piece result f e =
     let Stands : Option (ℕ × ℕ) → Type 0 = λ r. IfSome r (λ x. StandsAt (number_field size x.0) piece at) in
     subst Stands (sym e) (number_at-stands size at piece f)
 
+-- the field of a signed number that was answered stands where it was read
 pub int-told : (at : ℕ) (piece : List ℕ) (result : Option (ℤ × ℕ)) → ((k : ℕ) → get_or piece k 0 < 256) → result ≡ int_at piece at
     → IfSome result (λ f. StandsAt (int_field f.0) piece at)
 int-told at piece result f e =

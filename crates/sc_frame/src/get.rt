@@ -12,7 +12,7 @@ fn has_room(piece: &[u8], at: usize, size: usize) -> bool
     at <= piece.len() && piece.len() - at >= size
 }
 
-/// The number in the 2 bytes at a place, and the place behind them. `None` exactly where the piece is too
+/// The number in the 2 bytes at a place, and the place after them. `None` exactly where the piece is too
 /// short, as from the other calls.
 pub fn get_u16(piece: &[u8], at: usize) -> Option<(u16, usize)>
     ensures value { result ≡ number_at 2 piece.now at }
@@ -25,7 +25,7 @@ pub fn get_u16(piece: &[u8], at: usize) -> Option<(u16, usize)>
     Some((BigEndian::read_u16(&piece[at..]), at + 2))
 }
 
-/// The number in the 4 bytes at a place, and the place behind them.
+/// The number in the 4 bytes at a place, and the place after them.
 pub fn get_u32(piece: &[u8], at: usize) -> Option<(u32, usize)>
     ensures value { result ≡ number_at 4 piece.now at }
     ensures put { (n : ℕ) → n < 2 ^ 32 → StandsAt (number_field 4 n) piece.now at → result ≡ Some (n, at + 4) }
@@ -37,7 +37,7 @@ pub fn get_u32(piece: &[u8], at: usize) -> Option<(u32, usize)>
     Some((BigEndian::read_u32(&piece[at..]), at + 4))
 }
 
-/// The number in the 8 bytes at a place, and the place behind them.
+/// The number in the 8 bytes at a place, and the place after them.
 pub fn get_u64(piece: &[u8], at: usize) -> Option<(u64, usize)>
     ensures value { result ≡ number_at 8 piece.now at }
     ensures put { (n : ℕ) → n < 2 ^ 64 → StandsAt (number_field 8 n) piece.now at → result ≡ Some (n, at + 8) }
@@ -49,7 +49,7 @@ pub fn get_u64(piece: &[u8], at: usize) -> Option<(u64, usize)>
     Some((BigEndian::read_u64(&piece[at..]), at + 8))
 }
 
-/// The signed number in the 8 bytes at a place, and the place behind them.
+/// The signed number in the 8 bytes at a place, and the place after them.
 pub fn get_i64(piece: &[u8], at: usize) -> Option<(i64, usize)>
     ensures value { result ≡ int_at piece.now at }
     ensures put { (z : ℤ) → FitsSigned w64 z → StandsAt (int_field z) piece.now at → result ≡ Some (z, at + 8) }
@@ -61,10 +61,11 @@ pub fn get_i64(piece: &[u8], at: usize) -> Option<(i64, usize)>
     Some((BigEndian::read_i64(&piece[at..]), at + 8))
 }
 
-/// The bytes behind the 4 bytes of their length at a place, and the place behind them.
+/// The bytes after the 4 bytes of their length at a place, and the place after them.
 pub fn get_bytes(piece: &[u8], at: usize) -> Option<(&[u8], usize)>
     ensures value { option_map (λ (f : Bor (List ℕ) × ℕ). (f.0.now, f.1)) result ≡ bytes_at piece.now at }
-    ensures put { (b : List ℕ) → length b < 2 ^ 32 → StandsAt (bytes_field b) piece.now at → IsSomeAnd result (λ f. (f.0.now ≡ b) × (f.1 ≡ at + 4 + length b)) }
+    ensures put { (b : List ℕ) → length b < 2 ^ 32 → StandsAt (bytes_field b) piece.now at
+        → IsSomeAnd result (λ f. (f.0.now ≡ b) × (f.1 ≡ at + 4 + length b)) }
     ensures stands { IfSome result (λ f. StandsAt (bytes_field f.0.now) piece.now at) }
 {
     let (length, start) = get_u32(piece, at)?;

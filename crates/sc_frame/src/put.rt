@@ -4,7 +4,7 @@ ghost use Rattle.sc_frame.specs.Fields.{number_field, int_field, bytes_field};
 use byteorder::{BigEndian, ByteOrder};
 use sc_base::NoMemory;
 
-/// Appends a number as 2 bytes. Where memory is wanting nothing is appended, as by the other calls.
+/// Appends a number as 2 bytes. Out of memory nothing is appended, as by the other calls.
 #[tactic(auto, unfolding(crate::specs::Fields::number_field))]
 pub fn put_u16(out: &mut Vec<u8>, n: u16) -> Result<(), NoMemory>
     ensures ok { OnOk result (out.new.items ≡ out.old.items ++ number_field 2 n) }

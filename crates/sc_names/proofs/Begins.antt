@@ -53,6 +53,7 @@ starts_with-added false true b c [] us h k i j = absurd (omega arith)
 starts_with-added false true b c (t ∷ ts) us h k i j = rw (second_dot b c h k)
 starts_with-added false false b c ts us h k i j = starts_with-grow b c ts us i j
 
+-- the tokens of a descriptor begin those of a name exactly where its bytes begin the name and a token ends there
 pub starts_with_tokens : (piece name : List ℕ) → starts_with bytes_eq (tokens name) (tokens piece) ≡ begins piece name
 unfolding added
 starts_with_tokens [] [] = refl

@@ -62,12 +62,14 @@ solid-part start end list h within k b =
     ap is_white_space (get_or-take (end - start) (drop start list) k 0 short ∙ get_or-drop start list k 0)
     ∙ h (start + k) (omega arith) (omega arith)
 
+-- without white space in the rest of the list, its match is that of the rest as one descriptor
 pub matches-last : (start : ℕ) (list name : List ℕ) → SolidFrom start (length list) list
     → matches (drop start list) name ≡ hits (take (length list - start) (drop start list)) name
 matches-last start list name h =
     ap (λ xs. matches xs name) (sym (take_rest list start))
     ∙ matches-solid (take (length list - start) (drop start list)) name (solid-part start (length list) list h (omega arith))
 
+-- at white space the match of the list is that of the descriptor before it, or that of the rest
 pub matches-next : (start end : ℕ) (list name : List ℕ) → start ≤ end → end < length list → SolidFrom start end list
     → is_white_space (get_or list end 0) ≡ true
     → matches (drop start list) name ≡ (hits (take (end - start) (drop start list)) name || matches (drop (end + 1) list) name)
@@ -79,14 +81,17 @@ matches-next start end list name order within h e =
     ap (λ xs. matches xs name) (sym (take-append-drop (end - start) (drop start list)) ∙ ap (λ xs. piece ++ xs) rest)
     ∙ matches-space piece (get_or list end 0) (drop (end + 1) list) name (solid-part start end list h (omega arith)) e
 
+-- a disjunction whose first part is false is its second part
 pub or-no : (v w x : Bool) → x ≡ (v || w) → v ≡ false → w ≡ x
 or-no true w x e h = cc
 or-no false w x e h = sym e
 
+-- a disjunction whose first part is true is true
 pub or-yes : (v w x : Bool) → x ≡ (v || w) → v ≡ true → true ≡ x
 or-yes true w x e h = sym e
 or-yes false w x e h = cc
 
+-- a stretch without white space is longer by a byte that is none
 pub solid-more : (start end : ℕ) (list : List ℕ) → SolidFrom start end list → is_white_space (get_or list end 0) ≡ false → SolidFrom start (end + 1) list
 solid-more start end list h e k a b = elim (cases_lt k end) [
   | inl l ↦ h k a l

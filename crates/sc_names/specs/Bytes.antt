@@ -3,7 +3,7 @@ use Rattle.std.specs.Prelude.{ℕ, ◌&&◌, Bool, true, nat_eq, List, [], ◌�
 use Rattle.std.specs.List.{starts_with}
 use Rattle.sc_types.specs.Descriptors.{is_dot}
 
--- a token ends in front of this rest of a name
+-- a token ends before this rest of a name
 abbrev pub is_token_end : List ℕ → Bool
 is_token_end [] = true
 is_token_end (b ∷ bs) = is_dot b

@@ -2,7 +2,7 @@
 use Rattle.std.proofs.Common.{ℕ, ◌+◌, ◌<◌, ◌≤◌, List, length, get_or, arith}
 use Rattle.sc_timers.specs.Order.{IsPlaceAfter}
 
--- each is at most those behind it
+-- each is at most those after it
 abbrev pub AreSorted : List ℕ → Type 0
 AreSorted dues = (i j : ℕ) → i ≤ j → j < length dues → get_or dues i 0 ≤ get_or dues j 0
 
@@ -13,6 +13,7 @@ pub record Narrows (dues : List ℕ) (d low high : ℕ) : Type 0 where
   pub before : (i : ℕ) → i < low → get_or dues i 0 ≤ d
   pub behind : (i : ℕ) → high ≤ i → i < length dues → d < get_or dues i 0
 
+-- where the middle due is no later, the place is above the middle
 pub narrows-low : (dues : List ℕ) (d low high middle : ℕ) → AreSorted dues → Narrows dues d low high → middle < high → low ≤ middle → get_or dues middle 0 ≤ d
     → Narrows dues d (middle + 1) high
 narrows-low dues d low high middle s n h l e = record {
@@ -22,6 +23,7 @@ narrows-low dues d low high middle s n h l e = record {
   behind = n.behind;
 }
 
+-- where the middle due is later, the place is not above the middle
 pub narrows-high : (dues : List ℕ) (d low high middle : ℕ) → AreSorted dues → Narrows dues d low high → middle < high → low ≤ middle → d < get_or dues middle 0
     → Narrows dues d low middle
 narrows-high dues d low high middle s n h l e = record {
@@ -31,6 +33,7 @@ narrows-high dues d low high middle s n h l e = record {
   behind = λ i a b. omega (arith, s middle i a b);
 }
 
+-- once the bounds meet, they are the place
 pub narrows-done : (dues : List ℕ) (d low high : ℕ) → Narrows dues d low high → high ≤ low → IsPlaceAfter dues d low
 narrows-done dues d low high n h = record {
   within = omega (arith, n.order, n.within);

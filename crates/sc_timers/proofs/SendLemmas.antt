@@ -33,6 +33,7 @@ newer-not_before s t h k = grind (arith, nat_tests)
 earlier-before : (s t : TimerImage) → t.due < s.due → is_before t s ≡ true
 earlier-before s t h = grind (arith, nat_tests)
 
+-- there are as many dues as sends
 pub length-dues : (ss : List TimerImage) → length (dues_of ss) ≡ length ss
 length-dues [] = refl
 length-dues (s ∷ ss) = ap suc (length-dues ss)
@@ -42,6 +43,7 @@ ahead-due s [] h j b = absurd (omega arith)
 ahead-due s (x ∷ ss) h zero b = before-due s x h.0
 ahead-due s (x ∷ ss) h (suc j) b = ahead-due s ss h.1 j (omega arith)
 
+-- the dues of sends in due order ascend
 pub dues-sorted : (ss : List TimerImage) → IsInDueOrder ss → (i j : ℕ) → i ≤ j → j < length (dues_of ss) → get_or (dues_of ss) i 0 ≤ get_or (dues_of ss) j 0
 dues-sorted [] h i j a b = absurd (omega arith)
 dues-sorted (s ∷ ss) h zero zero a b = omega arith
@@ -64,6 +66,7 @@ place_rest x dues d p a = record {
   behind = λ i b c. a.behind (suc i) (omega arith) (omega arith);
 }
 
+-- adding a send in due order puts it after those that are due no later
 pub with_send-place : (t : TimerImage) (ss : List TimerImage) (p : ℕ) → AreOlder t ss → IsPlaceAfter (dues_of ss) t.due p → with_send t ss ≡ insert ss p t
 with_send-place t [] zero o a = refl
 with_send-place t [] (suc p) o a = absurd (omega (arith, a.within))
@@ -89,6 +92,7 @@ ahead-with_send s t (x ∷ ss) a h = by (is_before t x) (ahead-with_send s t ss 
 newer-either : (s t : TimerImage) → s.number < t.number → is_before t s ≡ false → is_before s t ≡ true
 newer-either s t h k = grind (arith, nat_tests)
 
+-- sends in due order stay so when one is added
 pub with_send-ordered : (t : TimerImage) (ss : List TimerImage) → AreOlder t ss → IsInDueOrder ss → IsInDueOrder (with_send t ss)
 with_send-ordered t [] o h = (tt, tt)
 with_send-ordered t (s ∷ ss) o h = by (is_before t s) refl (with_send-ordered t ss (older_rest t s ss o) h.1)
@@ -99,17 +103,21 @@ with_send-ordered t (s ∷ ss) o h = by (is_before t s) refl (with_send-ordered 
 
 -- ---- the sends at keys
 
+-- a full slot has a send
 pub full_some : (o : Option TimerImage) → IsSome o → (t : TimerImage) × (o ≡ Some t)
 full_some None h = cc
 full_some (Some t) h = (t, refl)
 
+-- a slot with a send is full
 pub is_full : (o : Option TimerImage) (t : TimerImage) → o ≡ Some t → IsSome o
 is_full None t e = cc
 is_full (Some x) t e = refl
 
+-- the sends of keys are the send of the first key and those of the rest
 pub sends-cons : (at : ℕ → Option TimerImage) (k : ℕ) (ks : List ℕ) (t : TimerImage) → at k ≡ Some t → sends_at at (k ∷ ks) ≡ t ∷ sends_at at ks
 sends-cons at k ks t e = ap (λ o. cons_option o (sends_at at ks)) e
 
+-- the send at a place is the one under the key at that place
 pub slice_get-sends : (at : ℕ → Option TimerImage) (ks : List ℕ) (i : ℕ) → AreFull at ks → i < length ks → slice_get (sends_at at ks) i ≡ at (get_or ks i 0)
 slice_get-sends at [] i f b = absurd (omega arith)
 slice_get-sends at (k ∷ ks) zero f b =
@@ -119,17 +127,20 @@ slice_get-sends at (k ∷ ks) (suc i) f b =
     let first = full_some (at k) f.0 in
     ap (λ xs. slice_get xs (suc i)) (sends-cons at k ks first.0 first.1) ∙ slice_get-sends at ks i f.1 (omega arith)
 
+-- there are as many sends as keys
 pub length-sends : (at : ℕ → Option TimerImage) (ks : List ℕ) → AreFull at ks → length (sends_at at ks) ≡ length ks
 length-sends at [] f = refl
 length-sends at (k ∷ ks) f =
     let first = full_some (at k) f.0 in
     ap length (sends-cons at k ks first.0 first.1) ∙ ap suc (length-sends at ks f.1)
 
+-- each key has a send under it
 pub full-at : (at : ℕ → Option TimerImage) (ks : List ℕ) (i : ℕ) → AreFull at ks → i < length ks → IsSome (at (get_or ks i 0))
 full-at at [] i f b = absurd (omega arith)
 full-at at (k ∷ ks) zero f b = f.0
 full-at at (k ∷ ks) (suc i) f b = full-at at ks i f.1 (omega arith)
 
+-- the due at a place is that of the send there
 pub due-at : (ss : List TimerImage) (i : ℕ) (t : TimerImage) → slice_get ss i ≡ Some t → get_or (dues_of ss) i 0 ≡ t.due
 due-at [] i t e = cc
 due-at (s ∷ ss) zero t e = (let same : s ≡ t = cc in ap (λ (x : TimerImage). x.due) same)
@@ -137,16 +148,19 @@ due-at (s ∷ ss) (suc i) t e = due-at ss i t e
 
 -- ---- other sends at the keys
 
+-- a change under another key leaves the sends as they are
 pub sends-same : (at new_at : ℕ → Option TimerImage) (k : ℕ) (ks : List ℕ) → IsAway k ks → ((j : ℕ) → j ≢ k → new_at j ≡ at j) → sends_at new_at ks ≡ sends_at at ks
 sends-same at new_at k [] a h = refl
 sends-same at new_at k (j ∷ js) a h = ap₂ (λ o ss. cons_option o ss) (h j (λ e. a.0 (sym e))) (sends-same at new_at k js a.1 h)
 
+-- a change under another key leaves each key with a send under it
 pub full-same : (at new_at : ℕ → Option TimerImage) (k : ℕ) (ks : List ℕ) → IsAway k ks → ((j : ℕ) → j ≢ k → new_at j ≡ at j) → AreFull at ks → AreFull new_at ks
 full-same at new_at k [] a h f = tt
 full-same at new_at k (j ∷ js) a h f =
     let first = full_some (at j) f.0 in
     (is_full (new_at j) first.0 (h j (λ e. a.0 (sym e)) ∙ first.1), full-same at new_at k js a.1 h f.1)
 
+-- a key with no send under it is none of the keys that have one
 pub away-vacant : (at : ℕ → Option TimerImage) (k : ℕ) (ks : List ℕ) → at k ≡ None → AreFull at ks → IsAway k ks
 away-vacant at k [] e f = tt
 away-vacant at k (j ∷ js) e f =
@@ -155,6 +169,7 @@ away-vacant at k (j ∷ js) e f =
 
 -- ---- one more key
 
+-- inserting a key inserts its send at the same place
 pub sends-insert : (at : ℕ → Option TimerImage) (ks : List ℕ) (p k : ℕ) (t : TimerImage) → AreFull at ks → at k ≡ Some t → sends_at at (insert ks p k) ≡ insert (sends_at at ks) p t
 sends-insert at [] zero k t f e = sends-cons at k [] t e
 sends-insert at [] (suc p) k t f e = sends-cons at k [] t e
@@ -186,6 +201,7 @@ pub record Added (at new_at : ℕ → Option TimerImage) (ks : List ℕ) (p k : 
   pub kept : AreKept new_at (insert ks p k)
   pub sends : sends_at new_at (insert ks p k) ≡ with_send t (sends_at at ks)
 
+-- a new send under a new key at its place gives the sends with that one added, still kept in order
 pub added : (at new_at : ℕ → Option TimerImage) (ks : List ℕ) (p k : ℕ) (t : TimerImage) → AreKept at ks → at k ≡ None → new_at k ≡ Some t
     → ((j : ℕ) → j ≢ k → new_at j ≡ at j) → AreOlder t (sends_at at ks) → IsPlaceAfter (dues_of (sends_at at ks)) t.due p
     → Added at new_at ks p k t
@@ -204,6 +220,7 @@ added at new_at ks p k t kept vacant e others older place =
       sends = sends;
     }
 
+-- an empty slot is not full
 pub none_full : (o : Option TimerImage) → None ≡ o → IsSome o → ⊥
 none_full None e s = cc
 none_full (Some t) e s = none_some t e
@@ -219,6 +236,7 @@ all-first : (now : ℕ) (s : TimerImage) (ss : List TimerImage) → IsInDueOrder
 all-first now s ss o h zero d b = h
 all-first now s ss o h (suc k) d b = later_due now s ss o.0 h k d (omega arith)
 
+-- where the first send is not due, none is
 pub none-due : (now : ℕ) (ss : List TimerImage) → IsInDueOrder ss → now < get_or (dues_of ss) 0 0 → All (λ (s : TimerImage). now < s.due) ss
 none-due now [] o h = absurd (omega arith)
 none-due now (s ∷ ss) o h = all-first now s ss o h
@@ -228,6 +246,7 @@ pub record Taken (at new_at : ℕ → Option TimerImage) (ks : List ℕ) (t : Ti
   pub sends : sends_at at ks ≡ t ∷ sends_at new_at (drop 1 ks)
   pub ahead : IsBeforeAll t (sends_at new_at (drop 1 ks))
 
+-- removing the first key and its send gives the rest of the sends, still kept in order
 pub taken : (at new_at : ℕ → Option TimerImage) (ks : List ℕ) (k : ℕ) (t : TimerImage) → AreKept at ks → 0 < length ks → k ≡ get_or ks 0 0 → at k ≡ Some t
     → ((j : ℕ) → j ≢ k → new_at j ≡ at j) → Taken at new_at ks t
 taken at new_at [] k t kept h e s others = absurd (omega arith)
@@ -246,6 +265,7 @@ taken at new_at (x ∷ ks) k t kept h e s others =
       ahead = subst (IsBeforeAll t) (sym rest) ordered.0;
     }
 
+-- what holds of a value holds of an answer that has it
 pub some_is : (r : Option TimerImage) (t : TimerImage) (P : TimerImage → Type 0) → r ≡ Some t → P t → IfSome r P
 some_is r t P e p = (let Q : Option TimerImage → Type 0 = λ o. IfSome o P in subst Q (sym e) p)
 
@@ -254,9 +274,11 @@ some_is r t P e p = (let Q : Option TimerImage → Type 0 = λ o. IfSome o P in 
 abbrev pub timers : List TimerImage → ℕ → TimersOf
 timers ss spare = record { sends = ss; spare = spare }
 
+-- timers with equal sends and equal room are equal
 pub same_timers : (ss ts : List TimerImage) (spare : ℕ) → ss ≡ ts → timers ss spare ≡ timers ts spare
 same_timers ss ts spare e = ap (λ xs. timers xs spare) e
 
+-- a test of two numbers decides between what follows from either outcome
 pub told-by : (P Q : Type 0) (d now : ℕ) → (d ≤ now → P) → (now < d → Q) → MatchBool (nat_le d now) P Q
 told-by P Q d now p q = by (nat_le d now) refl
   where

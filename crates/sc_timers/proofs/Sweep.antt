@@ -50,6 +50,7 @@ pub record Sweeps (test : TimerImage → Bool) (at now_at : ℕ → Option Timer
   pub counted : count ≡ count_by test (take i (sends_at at keys))
   pub small : count ≤ i
 
+-- before the first key nothing is taken out
 pub sweep-starts : (test : TimerImage → Bool) (at : ℕ → Option TimerImage) (keys : List ℕ) → Sweeps test at at keys 0 0
 sweep-starts test at keys = record {
   done = λ j a b. absurd (omega arith);
@@ -64,6 +65,7 @@ unless-no test o s e t = e ∙ sym (ap (unless test) e ∙ ap (λ v. cond v None
 unless-yes : (test : TimerImage → Bool) (o : Option TimerImage) (s : TimerImage) → o ≡ Some s → test s ≡ true → None ≡ unless test o
 unless-yes test o s e t = sym (ap (unless test) e ∙ ap (λ v. cond v None (Some s)) t)
 
+-- a send that fails the test stays under its key
 pub sweep-keeps : (test : TimerImage → Bool) (at now_at : ℕ → Option TimerImage) (keys : List ℕ) (i count : ℕ) (s : TimerImage) → AreFull at keys
     → Sweeps test at now_at keys i count → i < length keys → now_at (get_or keys i 0) ≡ Some s → test s ≡ false → Sweeps test at now_at keys (i + 1) count
 sweep-keeps test at now_at keys i count s full w b e t =
@@ -80,6 +82,7 @@ sweep-keeps test at now_at keys i count s full w b e t =
       small = omega (arith, w.small);
     }
 
+-- a send that passes the test is taken out and counted
 pub sweep-takes : (test : TimerImage → Bool) (at now_at new_at : ℕ → Option TimerImage) (keys : List ℕ) (i count : ℕ) (s : TimerImage) → AreKept at keys
     → Sweeps test at now_at keys i count → i < length keys → now_at (get_or keys i 0) ≡ Some s → test s ≡ true
     → new_at (get_or keys i 0) ≡ None → ((k : ℕ) → k ≢ get_or keys i 0 → new_at k ≡ now_at k) → Sweeps test at new_at keys (i + 1) (count + 1)
@@ -102,10 +105,12 @@ swept-from : (test : TimerImage → Bool) (at now_at : ℕ → Option TimerImage
 swept-from test at now_at [] h = tt
 swept-from test at now_at (k ∷ ks) h = (h 0 (omega arith), swept-from test at now_at ks (λ j b. h (suc j) (omega arith)))
 
+-- after the last key exactly the sends that pass are taken out
 pub sweep-ends : (test : TimerImage → Bool) (at now_at : ℕ → Option TimerImage) (keys : List ℕ) (i count : ℕ) → Sweeps test at now_at keys i count → length keys ≤ i
     → AreSwept test at now_at keys
 sweep-ends test at now_at keys i count w h = swept-from test at now_at keys (λ j b. w.done j (omega arith) b)
 
+-- after the last key the count is that of the sends that passed
 pub sweep-count : (test : TimerImage → Bool) (at now_at : ℕ → Option TimerImage) (keys : List ℕ) (i count : ℕ) → AreFull at keys → Sweeps test at now_at keys i count → length keys ≤ i
     → count ≡ count_by test (sends_at at keys)
 sweep-count test at now_at keys i count full w h =
@@ -113,6 +118,7 @@ sweep-count test at now_at keys i count full w h =
 
 -- ---- the keys that are left
 
+-- the sends of the keys that are left are those that failed the test
 pub sends-left : (test : TimerImage → Bool) (at new_at : ℕ → Option TimerImage) (ks : List ℕ) → AreFull at ks → AreSwept test at new_at ks
     → sends_at new_at (filter (λ k. is_some (new_at k)) ks) ≡ filter (λ s. not (test s)) (sends_at at ks)
 sends-left test at new_at [] f w = refl
@@ -175,6 +181,7 @@ ordered-filter p (s ∷ ss) h = by (p s) (ahead-filter p s ss h.0) (ordered-filt
     by true a f = (a, f)
     by false a f = f
 
+-- the keys that are left are kept in order, each with a send
 pub kept-left : (test : TimerImage → Bool) (at new_at : ℕ → Option TimerImage) (ks : List ℕ) → AreKept at ks → AreSwept test at new_at ks
     → AreKept new_at (filter (λ k. is_some (new_at k)) ks)
 kept-left test at new_at ks kept w = record {

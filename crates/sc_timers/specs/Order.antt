@@ -18,10 +18,12 @@ abbrev pub IsAway : ℕ → List ℕ → Type 0
 IsAway k [] = Unit {0}
 IsAway k (j ∷ js) = (k ≢ j) × IsAway k js
 
+-- no key stands twice
 abbrev pub AreDistinct : List ℕ → Type 0
 AreDistinct [] = Unit {0}
 AreDistinct (k ∷ ks) = IsAway k ks × AreDistinct ks
 
+-- keys that are distinct, each with a send, in due order
 pub record AreKept (at : ℕ → Option TimerImage) (keys : List ℕ) : Type 0 where
   pub full : AreFull at keys
   pub distinct : AreDistinct keys

@@ -33,7 +33,10 @@ fn due_at(order: &VecDeque<usize>, sends: &Slab<Timed>, place: usize) -> u64
 // Whether the first send is due.
 pub fn is_due(order: &VecDeque<usize>, sends: &Slab<Timed>, now: u64) -> bool
     requires { AreKept (send_at sends.now) order.now.items }
-    ensures { MatchBool result ((0 < length order.now.items) × (slice_index (map (λ s. s.due) (sends_at (send_at sends.now) order.now.items)) 0 ≤ now)) (All (λ s. now < s.due) (sends_at (send_at sends.now) order.now.items)) }
+    ensures { MatchBool result
+        ((0 < length order.now.items)
+        × (slice_index (map (λ s. s.due) (sends_at (send_at sends.now) order.now.items)) 0 ≤ now))
+        (All (λ s. now < s.due) (sends_at (send_at sends.now) order.now.items)) }
 {
     if order.is_empty() {
         return false;
@@ -46,7 +49,8 @@ pub fn take_first(order: &mut VecDeque<usize>, sends: &mut Slab<Timed>) -> Timed
     requires kept { AreKept (send_at sends.old) order.old.items }
     requires some { 0 < length order.old.items }
     ensures kept { AreKept (send_at sends.new) order.new.items }
-    ensures first { sends_at (send_at sends.old) order.old.items ≡ result ∷ sends_at (send_at sends.new) order.new.items }
+    ensures first { sends_at (send_at sends.old) order.old.items
+        ≡ result ∷ sends_at (send_at sends.new) order.new.items }
     ensures earliest { IsBeforeAll result (sends_at (send_at sends.new) order.new.items) }
     ensures order_len { deque_len order.new ≤ deque_len order.old }
     ensures order_capacity { deque_capacity order.new ≡ deque_capacity order.old }
@@ -63,7 +67,7 @@ pub fn take_first(order: &mut VecDeque<usize>, sends: &mut Slab<Timed>) -> Timed
     }
 }
 
-// Where a send stands that is due then and made after all others: behind those that are due no later.
+// Where a send stands that is due then and made after all others: after those that are due no later.
 pub fn place_after(order: &VecDeque<usize>, sends: &Slab<Timed>, due: u64) -> usize
     requires { AreKept (send_at sends.now) order.now.items }
     ensures { IsPlaceAfter (map (λ s. s.due) (sends_at (send_at sends.now) order.now.items)) due result }
@@ -92,8 +96,11 @@ fn drop_send(sends: &mut Slab<Timed>, key: usize)
 // Takes the picked sends out of the slab, and leaves their keys.
 fn remove_sends(order: &VecDeque<usize>, sends: &mut Slab<Timed>, pick: Pick<'_>) -> u64
     requires { AreKept (send_at sends.old) order.now.items }
-    ensures swept { AreSwept (is_picked pick.entry.session.now (option_map (λ x. x.now) pick.entry.id)) (send_at sends.old) (send_at sends.new) order.now.items }
-    ensures count { result ≡ count_by (is_picked pick.entry.session.now (option_map (λ x. x.now) pick.entry.id)) (sends_at (send_at sends.old) order.now.items) }
+    ensures swept { AreSwept (is_picked pick.entry.session.now (option_map (λ x. x.now) pick.entry.id))
+        (send_at sends.old) (send_at sends.new) order.now.items }
+    ensures count { result
+        ≡ count_by (is_picked pick.entry.session.now (option_map (λ x. x.now) pick.entry.id))
+        (sends_at (send_at sends.old) order.now.items) }
     ensures len { slab_len sends.new ≤ slab_len sends.old }
     ensures capacity { sends.new.capacity ≡ sends.old.capacity }
 {
@@ -120,8 +127,12 @@ fn keep_full(order: &mut VecDeque<usize>, sends: &Slab<Timed>)
 pub fn remove_picked(order: &mut VecDeque<usize>, sends: &mut Slab<Timed>, pick: Pick<'_>) -> u64
     requires { AreKept (send_at sends.old) order.old.items }
     ensures kept { AreKept (send_at sends.new) order.new.items }
-    ensures sends { sends_at (send_at sends.new) order.new.items ≡ filter (λ s. not (is_picked pick.entry.session.now (option_map (λ x. x.now) pick.entry.id) s)) (sends_at (send_at sends.old) order.old.items) }
-    ensures count { result ≡ count_by (is_picked pick.entry.session.now (option_map (λ x. x.now) pick.entry.id)) (sends_at (send_at sends.old) order.old.items) }
+    ensures sends { sends_at (send_at sends.new) order.new.items
+        ≡ filter (λ s. not (is_picked pick.entry.session.now (option_map (λ x. x.now) pick.entry.id) s))
+        (sends_at (send_at sends.old) order.old.items) }
+    ensures count { result
+        ≡ count_by (is_picked pick.entry.session.now (option_map (λ x. x.now) pick.entry.id))
+        (sends_at (send_at sends.old) order.old.items) }
     ensures order_len { deque_len order.new ≤ deque_len order.old }
     ensures order_capacity { deque_capacity order.new ≡ deque_capacity order.old }
     ensures len { slab_len sends.new ≤ slab_len sends.old }

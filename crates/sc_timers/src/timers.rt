@@ -34,7 +34,8 @@ impl Model for Timers {
 
     ghost view = { λ t. record { sends = sends_at (send_at t.sends) t.order.items; spare = t.spare } };
 
-    ghost invariant = { λ t. AreKept (send_at t.sends) t.order.items × (deque_len t.order + t.spare ≤ deque_capacity t.order) × HasRoomFor t.sends t.spare };
+    ghost invariant = { λ t. AreKept (send_at t.sends) t.order.items
+        × (deque_len t.order + t.spare ≤ deque_capacity t.order) × HasRoomFor t.sends t.spare };
 }
 
 impl Timers {
@@ -49,7 +50,7 @@ impl Timers {
         }
     }
 
-    /// Makes room for at least so many more sends. Where memory is wanting nothing is changed.
+    /// Makes room for at least so many more sends. Out of memory, nothing is changed.
     pub fn reserve(&mut self, count: usize) -> Result<(), NoMemory>
         ensures sends { self.new.sends ≡ self.old.sends }
         ensures spare { self.old.spare ≤ self.new.spare }

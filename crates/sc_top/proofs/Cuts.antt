@@ -11,6 +11,7 @@ other_byte byte b text h e = grind (arith, nat_tests)
 lacks_rest : (byte b : ℕ) (text : List ℕ) → IsTrue (lacks byte (b ∷ text)) → IsTrue (lacks byte text)
 lacks_rest byte b text h = grind (arith, nat_tests)
 
+-- a text is divided at its first byte of a kind in one way only
 pub same_parts : (byte : ℕ) (a b x y : List ℕ) → IsTrue (lacks byte a) → IsTrue (lacks byte b) → a ++ byte ∷ x ≡ b ++ byte ∷ y → (a ≡ b) × (x ≡ y)
 same_parts byte [] [] x y la lb h = (refl, cc)
 same_parts byte [] (c ∷ b) x y la lb h = let e : c ≡ byte = cc in absurd (other_byte byte c b lb e)

@@ -20,7 +20,7 @@ flat_map-map : (f : Command → List ℕ) (g : List ℕ → Command) (xs : List 
 flat_map-map f g [] = refl
 flat_map-map f g (x ∷ xs) = ap (λ t. f (g x) ++ t) (flat_map-map f g xs)
 
--- the text behind the chart line
+-- the text after the chart line
 abbrev behind : (name session : List ℕ) (events : List (List ℕ)) → List ℕ
 behind name session events = command_text (Start session name) ++ 10 ∷ posts_text session events
 
@@ -43,6 +43,7 @@ pub record First (text first rest : List ℕ) (cs : List Command) : Type 0 where
   pub start_line : IsStartLine name (command_text (Start session name)) session
   pub posts : IsPosts session (posts_text session events) events
 
+-- the first line of a script is its chart line
 pub first_of : (text first rest : List ℕ) → IsCut 10 text first rest → (cs : List Command) → IsFirstForm text cs → First text first rest cs
 first_of text first rest cut cs form =
     let s = form.shape in
@@ -66,6 +67,7 @@ pub record Second (second posts name : List ℕ) : Type 0 where
   pub session : List ℕ
   pub start_line : IsStartLine name second session
 
+-- the second line of a script is its start line, of the chart that the first names
 pub second_of : (text first rest second posts name json : List ℕ) → IsCut 10 text first rest → IsCut 10 rest second posts → IsChartLine first name json
     → (cs : List Command) → IsFirstForm text cs → Second second posts name
 second_of text first rest second posts name json cut next chart cs form =
@@ -85,15 +87,17 @@ pub record Opening (text name json session posts : List ℕ) : Type 0 where
   pub chart_line : IsChartLine first name json
   pub start_line : IsStartLine name second session
 
--- what commands that the text spells have behind the opening
+-- what commands that the text spells have after the opening
 pub record Rest (name json session tail : List ℕ) (cs : List Command) : Type 0 where
   pub events : List (List ℕ)
   pub commands : cs ≡ commands_of name json session events
   pub posts : IsPosts session tail events
 
+-- a chart line and a start line of its chart are the opening of a script
 pub opening_of : (text name json session posts first rest second : List ℕ) → length text ≤ 65536 → IsCut 10 text first rest → IsCut 10 rest second posts → IsChartLine first name json → IsStartLine name second session → Opening text name json session posts
 opening_of text name json session posts first rest second short first_cut second_cut chart_line start_line = record { short = short; first = first; rest = rest; second = second; first_cut = first_cut; second_cut = second_cut; chart_line = chart_line; start_line = start_line }
 
+-- the lines after the opening of a script are its posts
 pub rest_of : (text name json session posts : List ℕ) → Opening text name json session posts → (cs : List Command) → IsFirstForm text cs → Rest name json session posts cs
 rest_of text name json session posts o cs form =
     let f = first_of text o.first o.rest o.first_cut cs form in

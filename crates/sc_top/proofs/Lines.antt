@@ -10,7 +10,7 @@ use Rattle.sc_top.specs.ScriptLines.{IsCut, IsChartLine, IsStartLine, IsPostLine
 use Rattle.sc_top.proofs.Cuts.{same_cut}
 use Rattle.sc_top.proofs.Names.{word_lacks, plain_word, lacks-append}
 
--- two words behind a prefix
+-- two words after a prefix
 words_cut : (prefix words first rest : List ℕ) → prefix ++ words ≡ ((prefix ++ first) ++ codes " ") ++ rest → IsWord first → IsCut 32 words first rest
 words_cut prefix words first rest e word = record {
   joined = append_cancel_left prefix words (first ++ 32 ∷ rest) (e ∙ append_assoc (prefix ++ first) (codes " ") rest ∙ append_assoc prefix first (32 ∷ rest));
@@ -20,12 +20,15 @@ words_cut prefix words first rest e word = record {
 words_joined : (prefix words first rest : List ℕ) → words ≡ first ++ 32 ∷ rest → prefix ++ words ≡ ((prefix ++ first) ++ codes " ") ++ rest
 words_joined prefix words first rest e = ap (λ t. prefix ++ t) e ∙ sym (append_assoc (prefix ++ first) (codes " ") rest ∙ append_assoc prefix first (32 ∷ rest))
 
+-- a chart line is divided at the first space after its name
 pub chart_line_cut : (text words name json : List ℕ) → text ≡ codes "chart " ++ words → IsChartLine text name json → IsCut 32 words name json
 chart_line_cut text words name json e line = words_cut (codes "chart ") words name json (sym e ∙ line.spelled) line.chart_name.word
 
+-- a start line is divided at the first space after its session
 pub start_line_cut : (name text words session : List ℕ) → text ≡ codes "start " ++ words → IsStartLine name text session → IsCut 32 words session name
 start_line_cut name text words session e line = words_cut (codes "start ") words session name (sym e ∙ line.spelled) line.session_name.word
 
+-- a short name, a space and the chart's name make a start line
 pub start_line_made : (name text words session : List ℕ) → text ≡ codes "start " ++ words → IsCut 32 words session name → IsShortName session → IsStartLine name text session
 start_line_made name text words session e cut short = record { spelled = e ∙ words_joined (codes "start ") words session name cut.joined; session_name = short }
 
@@ -35,11 +38,13 @@ chart_line_parts text words front rest name json e cut line =
     let same = same_cut 32 words name json front rest (chart_line_cut text words name json e line) cut in
     (subst IsShortName same.0 line.chart_name, subst IsChartText same.1 line.chart)
 
+-- the parts of a start line are a short name and the chart's name
 pub start_line_parts : (name text words front rest session : List ℕ) → text ≡ codes "start " ++ words → IsCut 32 words front rest → IsStartLine name text session → IsShortName front × (rest ≡ name)
 start_line_parts name text words front rest session e cut line =
     let same = same_cut 32 words session name front rest (start_line_cut name text words session e line) cut in
     (subst IsShortName same.0 line.session_name, sym same.1)
 
+-- a short name that was read before the chart's name makes a start line
 pub start_line_found : {E : Type 0} (r : Result (List ℕ) E) (name text words front rest : List ℕ) → IfOk r (λ s. (s ≡ front) × IsShortName front)
     → text ≡ codes "start " ++ words → IsCut 32 words front rest → rest ≡ name → IfOk r (λ s. IsStartLine name text s)
 start_line_found (Ok s) name text words front rest h e cut f =
@@ -53,6 +58,7 @@ same_chart_line text name json other_name other_json h k =
     (record { joined = refl; first = word_lacks 32 name (omega arith) h.chart_name.word })
     (words_cut (codes "chart ") (name ++ 32 ∷ json) other_name other_json (words_joined (codes "chart ") (name ++ 32 ∷ json) name json refl ∙ sym h.spelled ∙ k.spelled) k.chart_name.word)
 
+-- a line is the start line of one session only
 pub same_start_line : (name text session other : List ℕ) → IsStartLine name text session → IsStartLine name text other → session ≡ other
 same_start_line name text session other h k =
     (same_cut 32 (session ++ 32 ∷ name) session name other name
@@ -66,6 +72,7 @@ post_text session event =
     ∙ append_assoc (codes "post " ++ session) (codes " ") event
     ∙ append_assoc (codes "post ") session (codes " " ++ event)
 
+-- the post line of a session is that of one event only
 pub same_post : (session event other : List ℕ) → command_text (post_of session event) ≡ command_text (post_of session other) → event ≡ other
 same_post session event other e =
     let t = sym (post_text session event) ∙ e ∙ post_text session other in
@@ -79,18 +86,21 @@ post_line_words session text words spaced event e f line =
 
 -- a line has no line feed
 
+-- a chart line has no line feed in it
 pub chart_line_lacks : (text name json : List ℕ) → IsChartLine text name json → IsTrue (lacks 10 (command_text (Install name json)))
 chart_line_lacks text name json line =
     lacks-append 10 ((codes "chart " ++ name) ++ codes " ") json
     (lacks-append 10 (codes "chart " ++ name) (codes " ") (lacks-append 10 (codes "chart ") name refl (word_lacks 10 name (omega arith) line.chart_name.word)) refl)
     line.chart.one_line
 
+-- a start line has no line feed in it
 pub start_line_lacks : (session name : List ℕ) → IsShortName session → IsShortName name → IsTrue (lacks 10 (command_text (Start session name)))
 start_line_lacks session name s n =
     lacks-append 10 ((codes "start " ++ session) ++ codes " ") name
     (lacks-append 10 (codes "start " ++ session) (codes " ") (lacks-append 10 (codes "start ") session refl (word_lacks 10 session (omega arith) s.word)) refl)
     (word_lacks 10 name (omega arith) n.word)
 
+-- a post line has no line feed in it
 pub post_line_lacks : (session event : List ℕ) → IsWord session → IsPlainName event → IsTrue (lacks 10 (command_text (post_of session event)))
 post_line_lacks session event s e =
     let right : IsTrue (lacks 10 (codes "post " ++ (session ++ (codes " " ++ event)))) = lacks-append 10 (codes "post ") (session ++ (codes " " ++ event)) refl (lacks-append 10 session (codes " " ++ event) (word_lacks 10 session (omega arith) s) (lacks-append 10 (codes " ") event refl (word_lacks 10 event (omega arith) (plain_word event e)))) in

@@ -56,5 +56,6 @@ plain_word text plain = record {
 pub word_lacks : (byte : ℕ) (text : List ℕ) → byte ≤ 32 → IsWord text → IsTrue (lacks byte text)
 word_lacks byte text le word = weaker is_name_byte (λ b. not (b == byte)) (λ b. above_space byte b le) text word.name.each
 
+-- two texts without a byte have none of it together
 pub lacks-append : (byte : ℕ) (a b : List ℕ) → IsTrue (lacks byte a) → IsTrue (lacks byte b) → IsTrue (lacks byte (a ++ b))
 lacks-append byte a b la lb = list_all-append (λ b. not (b == byte)) a b ∙ ap₂ ◌&&◌ la lb

@@ -23,6 +23,7 @@ found_here : (byte b : ℕ) (text : List ℕ) (t : Bool) → not (b == byte) ≡
 found_here byte b text true e lt later = simp (unary_clauses, one_more) (simp unary_clauses at (cut_later byte b text _ _ e (later (omega arith))))
 found_here byte b text false e lt later = record { joined = ap (λ x. x ∷ text) (grind (arith, nat_tests)); first = refl }
 
+-- a text is divided at the first place of a byte
 pub found : (byte : ℕ) (text : List ℕ) → place byte text < length text → IsCut byte text (take (place byte text) text) (drop (place byte text + 1) text)
 found byte [] lt = absurd (omega arith)
 found byte (b ∷ text) lt = found_here byte b text (not (b == byte)) refl lt (found byte text)
@@ -32,6 +33,7 @@ missing_here : (byte b : ℕ) (text : List ℕ) (t : Bool) → not (b == byte) �
 missing_here byte b text true e le later = later (omega arith)
 missing_here byte b text false e le later = absurd (omega arith)
 
+-- a text where the place is past its end lacks the byte
 pub missing : (byte : ℕ) (text : List ℕ) → length text ≤ place byte text → IsTrue (lacks byte text)
 missing byte [] le = refl
 missing byte (b ∷ text) le = missing_here byte b text (not (b == byte)) refl le (missing byte text)

@@ -23,7 +23,7 @@ first_line : (session event : List ℕ) (events : List (List ℕ)) (rest : List 
 first_line session event events rest =
     append_assoc (post session event ++ 10 ∷ []) (posts_text session events) rest ∙ append_assoc (post session event) (10 ∷ []) (posts_text session events ++ rest)
 
--- what is left behind the first events
+-- what is left after the first events
 pub record Left (session rest : List ℕ) (done all : List (List ℕ)) : Type 0 where
   pub tail : List (List ℕ)
   pub joined : all ≡ done ++ tail

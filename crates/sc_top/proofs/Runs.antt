@@ -13,6 +13,7 @@ use Rattle.sc_top.specs.Running.{Makes, Goes, HasStepped, IsUnderWay, HasRun}
 use Rattle.sc_top.specs.declared.host.Host.{Host}
 use Rattle.sc_top.specs.declared.run.Run.{Run}
 
+-- replaying two histories in a row is replaying both as one
 pub replay-append : (g : HostImage) (es fs : List Entry) → replay g (es ++ fs) ≡ replay (replay g es) fs
 replay-append g [] fs = refl
 replay-append g (e ∷ es) fs = replay-append (answer g e.command).host es fs

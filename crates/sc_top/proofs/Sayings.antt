@@ -29,12 +29,14 @@ module _ (words : List (List ℕ)) (source : Option (List ℕ)) (faulted : Type 
 
 -- of whichever is said, where something is
 
+-- what is said of a script that was read is what the promise says of a run
 pub run_says : {E : Type 0} (source : Option (List ℕ)) (faulted : Type 0) (text : List ℕ) (r : Result Saying E) → IfSome source (λ all. text ≡ script_read all)
     → IfOk r (λ s. SaysOfScript text (status_of s) (text_of s))
     → IfOk r (λ s. (words : List (List ℕ)) → IsRunWords words → Says words source faulted (status_of s) (text_of s))
 run_says source faulted text (Ok s) told says = λ words is. says_of_script words source faulted is text told (status_of s) (text_of s) says
 run_says source faulted text (Err e) told says = tt
 
+-- what is said of a chart that was read is what the promise says of a check
 pub check_says : {E : Type 0} (source : Option (List ℕ)) (faulted : Type 0) (text : List ℕ) (r : Result Saying E) → IfSome source (λ all. text ≡ chart_read all)
     → IfOk r (λ s. status_of s ≡ check_status (legal_chart_of text)) → IfOk r (λ s. text_of s ≡ check_text (legal_chart_of text))
     → IfOk r (λ s. (words : List (List ℕ)) → IsCheckWords words → Says words source faulted (status_of s) (text_of s))

@@ -10,6 +10,7 @@ posts_no_step : (session : List ℕ) (events : List (List ℕ)) → AllByRecursi
 posts_no_step session [] = tt
 posts_no_step session (e ∷ es) = (tt, posts_no_step session es)
 
+-- no command of a script is a step
 pub first_form_no_step : (text : List ℕ) (cs : List Command) → IsFirstForm text cs → AllByRecursion IsNoStep cs
 first_form_no_step text cs form = subst (AllByRecursion IsNoStep) (sym form.shape.commands) (tt, (tt, posts_no_step form.shape.session form.shape.events))
 
@@ -22,6 +23,7 @@ lines_long (c ∷ cs) =
     let both = length-append (line (command_text c)) (flat_map (λ d. line (command_text d)) cs) in
     omega (arith, rest, own, both)
 
+-- a script has fewer than a million commands
 pub first_form_few : (text : List ℕ) (cs : List Command) → IsFirstForm text cs → length cs < 1000000
 first_form_few text cs form = omega (arith, lines_long cs, form.short, ap length form.spelled)
 

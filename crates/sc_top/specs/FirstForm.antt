@@ -26,9 +26,11 @@ pub record IsChartText (text : List ℕ) : Type 0 where
   pub no_space_behind : slice_index text (length text - 1) ≢ 32
   pub flat : IsSome (flat_chart_of text)
 
+-- the command that posts an event without data
 abbrev pub post_of : List ℕ → List ℕ → Command
 post_of session event = Post session event []
 
+-- the commands of a script: a chart, a session of it, and events for the session
 pub record HasFirstShape (cs : List Command) : Type 0 where
   pub name : List ℕ
   pub json : List ℕ

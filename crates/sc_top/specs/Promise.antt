@@ -51,10 +51,16 @@ pub record Reports (text bytes : List ℕ) : Type 0 where
 pub data Says (words : List (List ℕ)) (source : Option (List ℕ)) (faulted : Type 0) : ℕ → List ℕ → Type 0 where
   other_words : (IsCommand words → ⊥) → Says words source faulted 1 (codes "words\n")
   read_fault : IsCommand words → faulted → Says words source faulted 4 (codes "read\n")
-  no_script : (text : List ℕ) → IsRunWords words → IfSome source (λ all. text ≡ script_read all) → ((cs : List Command) → IsFirstForm text cs → ⊥) → Says words source faulted 12 (codes "not-built\n")
-  ran : (text bytes : List ℕ) → IsRunWords words → IfSome source (λ all. text ≡ script_read all) → Reports text bytes → Says words source faulted 0 bytes
-  legal : (text : List ℕ) (chart : Chart) → IsCheckWords words → IfSome source (λ all. text ≡ chart_read all) → legal_chart_of text ≡ Ok chart → Says words source faulted 0 (line (codes "ok " ++ decimal (count_states chart)))
-  faulty : (text : List ℕ) (fault : ChartFault) → IsCheckWords words → IfSome source (λ all. text ≡ chart_read all) → legal_chart_of text ≡ Err fault → Says words source faulted 3 (line (codes "chart " ++ fault_text fault))
+  no_script : (text : List ℕ) → IsRunWords words → IfSome source (λ all. text ≡ script_read all)
+      → ((cs : List Command) → IsFirstForm text cs → ⊥) → Says words source faulted 12 (codes "not-built\n")
+  ran : (text bytes : List ℕ) → IsRunWords words → IfSome source (λ all. text ≡ script_read all)
+      → Reports text bytes → Says words source faulted 0 bytes
+  legal : (text : List ℕ) (chart : Chart) → IsCheckWords words → IfSome source (λ all. text ≡ chart_read all)
+      → legal_chart_of text ≡ Ok chart
+      → Says words source faulted 0 (line (codes "ok " ++ decimal (count_states chart)))
+  faulty : (text : List ℕ) (fault : ChartFault) → IsCheckWords words → IfSome source (λ all. text ≡ chart_read all)
+      → legal_chart_of text ≡ Err fault
+      → Says words source faulted 3 (line (codes "chart " ++ fault_text fault))
 
 -- these bytes are those of some status other than the two that say nothing of their own
 pub record Output (words : List (List ℕ)) (source : Option (List ℕ)) (faulted : Type 0) (text : List ℕ) : Type 0 where

@@ -26,7 +26,8 @@ pub record Goes (old new : Run) (before after : List Command) : Type 0 where
   pub history : new.history ≡ old.history ++ added
   pub host : new.host.image ≡ replay old.host.image added
   pub held : IsHeld new.host
-  pub runs : (rest : List Entry) → IsRun new.host.image after new.left rest → IsRun old.host.image before old.left (added ++ rest)
+  pub runs : (rest : List Entry) → IsRun new.host.image after new.left rest
+      → IsRun old.host.image before old.left (added ++ rest)
 
 -- neither a session nor a budget is left to step with: the script goes on
 abbrev pub HasStepped : Run → Type 0

@@ -11,6 +11,7 @@ use Rattle.sc_top.specs.Promise.{Reports}
 use Rattle.sc_top.specs.declared.saying.Saying.{Saying}
 use Rattle.sc_top.specs.declared.saying.Saying.TheVariants.{OtherWords, ReadFault, NoScript, Done, Faulty}
 
+-- the status that goes with a saying
 abbrev pub status_of : Saying → ℕ
 status_of OtherWords = 1
 status_of ReadFault = 4
@@ -18,6 +19,7 @@ status_of NoScript = 12
 status_of (Done text) = 0
 status_of (Faulty text) = 3
 
+-- the bytes that go with a saying
 abbrev pub text_of : Saying → List ℕ
 text_of OtherWords = codes "words\n"
 text_of ReadFault = codes "read\n"
@@ -32,10 +34,12 @@ pub data SaysOfScript (text : List ℕ) : ℕ → List ℕ → Type 0 where
 
 -- of a text that should spell a chart
 
+-- the status of a check
 abbrev pub check_status : Result Chart ChartFault → ℕ
 check_status (Ok chart) = 0
 check_status (Err fault) = 3
 
+-- what a check writes
 abbrev pub check_text : Result Chart ChartFault → List ℕ
 check_text (Ok chart) = line (codes "ok " ++ decimal (count_states chart))
 check_text (Err fault) = line (codes "chart " ++ fault_text fault)

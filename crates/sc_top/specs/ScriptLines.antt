@@ -11,19 +11,23 @@ pub record IsCut (byte : ℕ) (text front rest : List ℕ) : Type 0 where
   pub joined : text ≡ front ++ byte ∷ rest
   pub first : IsTrue (lacks byte front)
 
+-- the line `chart NAME JSON`
 pub record IsChartLine (text name json : List ℕ) : Type 0 where
   pub spelled : text ≡ command_text (Install name json)
   pub chart_name : IsShortName name
   pub chart : IsChartText json
 
+-- the line `start SESSION NAME`
 pub record IsStartLine (name text session : List ℕ) : Type 0 where
   pub spelled : text ≡ command_text (Start session name)
   pub session_name : IsShortName session
 
+-- the line `post SESSION EVENT`
 pub record IsPostLine (session text event : List ℕ) : Type 0 where
   pub spelled : text ≡ command_text (post_of session event)
   pub event_name : IsPlainName event
 
+-- the text of the post lines of these events
 abbrev pub posts_text : List ℕ → List (List ℕ) → List ℕ
 posts_text session events = flat_map (λ event. line (command_text (post_of session event))) events
 

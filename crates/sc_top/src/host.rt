@@ -176,7 +176,8 @@ impl Host {
         cue: &Cue,
     ) -> Result<TurnResult, NoMemory>
         requires { IsHeld self.now }
-        ensures { IfOk result (λ t. t ≡ turn (chart_named self.now.image session.now.state.chart) session.now.state cue.now) }
+        ensures { IfOk result (λ t.
+            t ≡ turn (chart_named self.now.image session.now.state.chart) session.now.state cue.now) }
     {
         match self.tree_named(session.state.chart.bytes()) {
             Some(tree) => turn(alloc, tree, &session.state, cue),
@@ -193,7 +194,7 @@ impl Host {
         self.trees.get(place)
     }
 
-    /// Does a command, as the host machine answers it. After want of memory the host is to be given up.
+    /// Does a command, as the host machine answers it. After `NoMemory` the host is to be given up.
     #[tactic(auto, unfolding(sc_law::specs::Host::answer))]
     pub fn answer(&mut self, alloc: Global, command: &Command) -> Result<Answered, NoMemory>
         requires held { IsHeld self.old }
@@ -309,7 +310,11 @@ fn leave_queue(cue: &Cue, queued: &mut Sequence<Event>)
 
 /// Puts the state after a turn in: its cue leaves the queue, and a session that has ended loses its queue.
 fn finish_step(alloc: Global, session: &mut SessionImage, cue: &Cue, after: SessionState)
-    ensures { session.new ≡ record session.old { state = after; queued = queue_of_phase after.phase (queue_left cue.now session.old.queued) } }
+    ensures { session.new
+        ≡ record session.old {
+          state = after;
+          queued = queue_of_phase after.phase (queue_left cue.now session.old.queued);
+        } }
 {
     leave_queue(cue, &mut session.queued);
     if let Phase::Ended(_) = &after.phase {

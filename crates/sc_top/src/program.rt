@@ -37,19 +37,22 @@ const STEP_BUDGET: u64 = 1_000_000;
 /// With the words `run --workers 0` the source has a script, and the sink takes the report of its run. With the
 /// word `check` the source has a chart, and the sink takes `ok` and the number of its states, or, with the status
 /// 3, `chart` and its first fault. Else the sink takes the line that names the status: 1 `words`, 4 `read`,
-/// 12 `not-built` where the text is no script of the first form. After 5, the sink failed and has taken a front of
-/// what was to be written; after 7 memory was wanting and nothing was written.
+/// 12 `not-built` where the text is no script of the first form. After 5, the sink failed and has taken the first
+/// part of what was to be written; after 7 the program was out of memory, and nothing was written.
 pub fn top<S: Source, K: Sink>(alloc: Global, words: &[String], source: &mut S, sink: &mut K) -> u8
     ensures said { result ≢ 5 → result ≢ 7 → (text : List ℕ)
-        × Says (map string_bytes words.now) (S.left source.old) (Rose (S.faults source.old) (S.faults source.new)) result text
+        × Says (map string_bytes words.now) (S.left source.old) (Rose (S.faults source.old) (S.faults source.new))
+        result text
         × Appends (K.taken sink.old) (K.taken sink.new) text }
     ensures cut { result ≡ 5 → (text : List ℕ)
-        × Output (map string_bytes words.now) (S.left source.old) (Rose (S.faults source.old) (S.faults source.new)) text
+        × Output (map string_bytes words.now) (S.left source.old) (Rose (S.faults source.old) (S.faults source.new))
+        text
         × AppendsPart (K.taken sink.old) (K.taken sink.new) text }
     ensures write { result ≡ 5 → Rose (K.faults sink.old) (K.faults sink.new) }
     ensures none { result ≡ 7 → Keeps (K.taken sink.old) (K.taken sink.new) }
     ensures few { ConsumesUpTo 1048577 (S.left source.old) (S.left source.new) }
-    ensures few_but_of_check { ¬ IsCheckWords (map string_bytes words.now) → ConsumesUpTo 65537 (S.left source.old) (S.left source.new) }
+    ensures few_but_of_check { ¬ IsCheckWords (map string_bytes words.now)
+        → ConsumesUpTo 65537 (S.left source.old) (S.left source.new) }
 {
     match saying_of(alloc, words, source) {
         Ok(saying) => say(sink, saying.text(), saying.status()),
@@ -59,9 +62,12 @@ pub fn top<S: Source, K: Sink>(alloc: Global, words: &[String], source: &mut S, 
 
 /// What there is to say of these words.
 fn saying_of<S: Source>(alloc: Global, words: &[String], source: &mut S) -> Result<Saying, NoMemory>
-    ensures says { IfOk result (λ s. Says (map string_bytes words.now) (S.left source.old) (Rose (S.faults source.old) (S.faults source.new)) (status_of s) (text_of s)) }
+    ensures says { IfOk result (λ s.
+        Says (map string_bytes words.now) (S.left source.old) (Rose (S.faults source.old) (S.faults source.new))
+        (status_of s) (text_of s)) }
     ensures few { ConsumesUpTo 1048577 (S.left source.old) (S.left source.new) }
-    ensures few_but_of_check { ¬ IsCheckWords (map string_bytes words.now) → ConsumesUpTo 65537 (S.left source.old) (S.left source.new) }
+    ensures few_but_of_check { ¬ IsCheckWords (map string_bytes words.now)
+        → ConsumesUpTo 65537 (S.left source.old) (S.left source.new) }
 {
     if is_run(words) {
         return run(alloc, source);
@@ -73,7 +79,8 @@ fn saying_of<S: Source>(alloc: Global, words: &[String], source: &mut S) -> Resu
 }
 
 fn run<S: Source>(alloc: Global, source: &mut S) -> Result<Saying, NoMemory>
-    ensures says { IfOk result (λ s. (words : List (List ℕ)) → IsRunWords words → Says words (S.left source.old) (Rose (S.faults source.old) (S.faults source.new)) (status_of s) (text_of s)) }
+    ensures says { IfOk result (λ s. (words : List (List ℕ)) → IsRunWords words
+        → Says words (S.left source.old) (Rose (S.faults source.old) (S.faults source.new)) (status_of s) (text_of s)) }
     ensures few { ConsumesUpTo 65537 (S.left source.old) (S.left source.new) }
 {
     match read_up_to(alloc, source, SCRIPT_LIMIT) {
@@ -84,7 +91,8 @@ fn run<S: Source>(alloc: Global, source: &mut S) -> Result<Saying, NoMemory>
 }
 
 fn check<S: Source>(alloc: Global, source: &mut S) -> Result<Saying, NoMemory>
-    ensures says { IfOk result (λ s. (words : List (List ℕ)) → IsCheckWords words → Says words (S.left source.old) (Rose (S.faults source.old) (S.faults source.new)) (status_of s) (text_of s)) }
+    ensures says { IfOk result (λ s. (words : List (List ℕ)) → IsCheckWords words
+        → Says words (S.left source.old) (Rose (S.faults source.old) (S.faults source.new)) (status_of s) (text_of s)) }
     ensures few { ConsumesUpTo 1048577 (S.left source.old) (S.left source.new) }
 {
     match read_up_to(alloc, source, CHART_LIMIT) {

@@ -45,7 +45,10 @@ pub(crate) fn report_of(
 }
 
 fn put_clock(out: &mut TextWriter, image: &HostImage) -> Result<(), NoMemory>
-    ensures { OnOk result (out.new ≡ out.old ++ line (codes "clock " ++ decimal image.now.clock ++ codes " timers " ++ decimal (length image.now.timers))) }
+    ensures { OnOk result (out.new
+        ≡ out.old
+        ++ line (codes "clock " ++ decimal image.now.clock
+        ++ codes " timers " ++ decimal (length image.now.timers))) }
 {
     out.text("clock ")?;
     out.number(u128::from(image.clock))?;

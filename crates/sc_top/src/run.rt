@@ -43,8 +43,10 @@ impl Run {
         requires numbers { self.old.host.image.events + self.old.left < 2 ^ 63 }
         ensures goes { OnOk result ((cs : List Command) → Goes self.old self.new cs cs) }
         ensures stepped { OnOk result (HasStepped self.new) }
-        ensures commands { OnOk result (self.new.host.image.commands + self.new.left ≤ self.old.host.image.commands + self.old.left) }
-        ensures events { OnOk result (self.new.host.image.events + self.new.left ≤ self.old.host.image.events + self.old.left) }
+        ensures commands { OnOk result
+            (self.new.host.image.commands + self.new.left ≤ self.old.host.image.commands + self.old.left) }
+        ensures events { OnOk result
+            (self.new.host.image.events + self.new.left ≤ self.old.host.image.events + self.old.left) }
     {
         while self.left > 0 {
             let Some(session) = self.host.ready(alloc)? else {

@@ -9,7 +9,7 @@ use crate::flat::read_flat_chart;
 use sc_types::{Bytes, Command, NoMemory, Plain, Sequence, Unfit, Word, is_plain_name};
 use std::alloc::Global;
 
-/// Why a script is not read: its text lacks the first form, or memory was wanting.
+/// Why a script is not read: its text lacks the first form, or the program was out of memory.
 #[derive(Clone, Copy, Debug, PartialEq, Eq)]
 pub enum ScriptRefusal {
     NotFirstForm,
@@ -102,7 +102,8 @@ fn is_chart_text(alloc: Global, text: &[u8]) -> Result<bool, NoMemory>
 
 fn read_start_line(alloc: Global, name: &Word, text: &[u8]) -> Result<Word, ScriptRefusal>
     ensures found { IfOk result (λ session. IsStartLine name.now text.now session) }
-    ensures none { result ≡ Err ScriptRefusal.NotFirstForm → (session : List ℕ) → ¬ IsStartLine name.now text.now session }
+    ensures none { result ≡ Err ScriptRefusal.NotFirstForm
+        → (session : List ℕ) → ¬ IsStartLine name.now text.now session }
 {
     let Some(words) = after(text, b"start ") else {
         return Err(ScriptRefusal::NotFirstForm);
@@ -116,7 +117,7 @@ fn read_start_line(alloc: Global, name: &Word, text: &[u8]) -> Result<Word, Scri
     read_short_name(alloc, session)
 }
 
-/// The commands so far, with those of the lines of the rest of the text behind them.
+/// The commands so far, followed by those of the lines of the rest of the text.
 fn read_posts(
     alloc: Global,
     before: Sequence<Command>,
@@ -124,8 +125,10 @@ fn read_posts(
     text: &[u8],
 ) -> Result<Sequence<Command>, ScriptRefusal>
     requires { IsWord session.now }
-    ensures found { IfOk result (λ cs. (events : List (List ℕ)) × (cs ≡ before ++ map (post_of session.now) events) × IsPosts session.now text.now events) }
-    ensures none { result ≡ Err ScriptRefusal.NotFirstForm → (events : List (List ℕ)) → ¬ IsPosts session.now text.now events }
+    ensures found { IfOk result (λ cs. (events : List (List ℕ))
+        × (cs ≡ before ++ map (post_of session.now) events) × IsPosts session.now text.now events) }
+    ensures none { result ≡ Err ScriptRefusal.NotFirstForm
+        → (events : List (List ℕ)) → ¬ IsPosts session.now text.now events }
 {
     let mut commands = before;
     let mut rest = text;
@@ -140,8 +143,10 @@ fn read_posts(
 }
 
 fn read_post_line(alloc: Global, session: &Word, text: &[u8]) -> Result<Command, ScriptRefusal>
-    ensures found { IfOk result (λ c. (event : List ℕ) × (c ≡ post_of session.now event) × IsPostLine session.now text.now event) }
-    ensures none { result ≡ Err ScriptRefusal.NotFirstForm → (event : List ℕ) → ¬ IsPostLine session.now text.now event }
+    ensures found { IfOk result (λ c. (event : List ℕ)
+        × (c ≡ post_of session.now event) × IsPostLine session.now text.now event) }
+    ensures none { result ≡ Err ScriptRefusal.NotFirstForm
+        → (event : List ℕ) → ¬ IsPostLine session.now text.now event }
 {
     let Some(event) = event_after(text, session.bytes()) else {
         return Err(ScriptRefusal::NotFirstForm);
@@ -158,7 +163,8 @@ fn read_post_line(alloc: Global, session: &Word, text: &[u8]) -> Result<Command,
 }
 
 fn event_after<'t>(text: &'t [u8], session: &[u8]) -> Option<&'t [u8]>
-    ensures { MatchOption result ((event : List ℕ) → ¬ IsPostLine session.now text.now event) (λ event. IsPostLine session.now text.now event.now) }
+    ensures { MatchOption result ((event : List ℕ) → ¬ IsPostLine session.now text.now event)
+        (λ event. IsPostLine session.now text.now event.now) }
 {
     let words = after(text, b"post ")?;
     let spaced = after(words, session)?;
@@ -184,7 +190,7 @@ fn read_short_name(alloc: Global, text: &[u8]) -> Result<Word, ScriptRefusal>
     }
 }
 
-/// The text before the first of these bytes, and the text behind it.
+/// The text before the first of these bytes, and the text after it.
 fn cut(text: &[u8], byte: u8) -> Option<(&[u8], &[u8])>
     ensures { MatchOption result (IsTrue (lacks byte text.now)) (λ p. IsCut byte text.now p.0.now p.1.now) }
 {
@@ -206,7 +212,8 @@ fn lacks(text: &[u8], byte: u8) -> bool
 
 /// What follows this prefix.
 fn after<'t>(text: &'t [u8], prefix: &[u8]) -> Option<&'t [u8]>
-    ensures { MatchOption result ((rest : List ℕ) → text.now ≢ prefix.now ++ rest) (λ rest. text.now ≡ prefix.now ++ rest.now) }
+    ensures { MatchOption result ((rest : List ℕ) → text.now ≢ prefix.now ++ rest)
+        (λ rest. text.now ≡ prefix.now ++ rest.now) }
 {
     text.strip_prefix(prefix)
 }

@@ -19,11 +19,12 @@ abbrev pub IsBeforeAll : TimerImage → List TimerImage → Type 0
 IsBeforeAll t [] = Unit {0}
 IsBeforeAll t (s ∷ ss) = (is_before t s ≡ true) × IsBeforeAll t ss
 
--- each comes due before all that stand behind it
+-- each comes due before all that stand after it
 abbrev pub IsInDueOrder : List TimerImage → Type 0
 IsInDueOrder [] = Unit {0}
 IsInDueOrder (s ∷ ss) = IsBeforeAll s ss × IsInDueOrder ss
 
+-- whether a send is of the session
 abbrev pub is_of : List ℕ → TimerImage → Bool
 is_of session s = bytes_eq s.session session
 

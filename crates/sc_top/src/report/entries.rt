@@ -58,7 +58,9 @@ fn put_command_line(
     who: Who,
     command: &Command,
 ) -> Result<(), NoMemory>
-    ensures { OnOk result (out.new ≡ out.old ++ line (decimal number ++ codes " " ++ who_text who ++ codes " " ++ command_text command.now)) }
+    ensures { OnOk result (out.new
+        ≡ out.old
+        ++ line (decimal number ++ codes " " ++ who_text who ++ codes " " ++ command_text command.now)) }
 {
     out.number(number as u128)?;
     out.text(" ")?;

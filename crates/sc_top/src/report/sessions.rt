@@ -21,7 +21,8 @@ fn put_state(
     tree: Option<&Tree>,
     state: u32,
 ) -> Result<(), NoMemory>
-    ensures { OnOk result (out.new ≡ out.old ++ state_text (unwrap_or (option_copied tree.entry) bare_chart) state) }
+    ensures { OnOk result (out.new
+        ≡ out.old ++ state_text (unwrap_or (option_copied tree.entry) bare_chart) state) }
 {
     out.text(" ")?;
     match id_in(tree, state) {
@@ -34,7 +35,8 @@ fn put_state(
 }
 
 fn id_in<'t>(tree: Option<&'t Tree>, state: u32) -> Option<&'t [u8]>
-    ensures { option_copied result ≡ option_and_then id_of (node_of (unwrap_or (option_copied tree.entry) bare_chart) state) }
+    ensures { option_copied result
+        ≡ option_and_then id_of (node_of (unwrap_or (option_copied tree.entry) bare_chart) state) }
 {
     tree?.id_of(state)
 }
@@ -44,7 +46,8 @@ fn put_ids(
     tree: Option<&Tree>,
     states: &[u32],
 ) -> Result<(), NoMemory>
-    ensures { OnOk result (out.new ≡ out.old ++ flat_map (state_text (unwrap_or (option_copied tree.entry) bare_chart)) states.now) }
+    ensures { OnOk result (out.new
+        ≡ out.old ++ flat_map (state_text (unwrap_or (option_copied tree.entry) bare_chart)) states.now) }
 {
     for state in states {
         put_state(out, tree, *state)?;
@@ -86,7 +89,9 @@ fn put_states(
     state: &SessionState,
 ) -> Result<(), NoMemory>
     requires { IsHeld host.now }
-    ensures { OnOk result (out.new ≡ out.old ++ flat_map (state_text (chart_named host.now.image state.now.chart)) state.now.configuration) }
+    ensures { OnOk result (out.new
+        ≡ out.old
+        ++ flat_map (state_text (chart_named host.now.image state.now.chart)) state.now.configuration) }
 {
     let tree = host.tree_named(state.chart.bytes());
     put_ids(out, tree, state.configuration.slice())
@@ -98,7 +103,10 @@ fn put_active(
     state: &SessionState,
 ) -> Result<(), NoMemory>
     requires { IsHeld host.now }
-    ensures { OnOk result (out.new ≡ out.old ++ line (codes "live in" ++ flat_map (state_text (chart_named host.now.image state.now.chart)) state.now.configuration)) }
+    ensures { OnOk result (out.new
+        ≡ out.old
+        ++ line (codes "live in"
+        ++ flat_map (state_text (chart_named host.now.image state.now.chart)) state.now.configuration)) }
 {
     out.text("live in")?;
     put_states(out, host, state)?;
@@ -124,7 +132,8 @@ fn put_phase(
     session: &SessionImage,
 ) -> Result<(), NoMemory>
     requires { IsHeld host.now }
-    ensures { OnOk result (out.new ≡ out.old ++ phase_text host.now.image session.now session.now.state.phase) }
+    ensures { OnOk result (out.new
+        ≡ out.old ++ phase_text host.now.image session.now session.now.state.phase) }
 {
     match &session.state.phase {
         Phase::Ended(how) => {
@@ -153,7 +162,8 @@ fn put_session(
 
 pub(crate) fn put_sessions(out: &mut TextWriter, host: &Host) -> Result<(), NoMemory>
     requires { IsHeld host.now }
-    ensures { OnOk result (out.new ≡ out.old ++ flat_map (session_text host.now.image) host.now.image.sessions) }
+    ensures { OnOk result (out.new
+        ≡ out.old ++ flat_map (session_text host.now.image) host.now.image.sessions) }
 {
     for session in host.image.sessions.slice() {
         put_session(out, host, session)?;

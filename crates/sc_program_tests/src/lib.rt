@@ -1,5 +1,5 @@
-//! Tests of what no contract says: worked runs of the whole program, byte for byte, and that each public call
-//! succeeds where memory is ample.
+//! Tests of the devices and of the program as a whole: worked scripts and charts with what is written of them, byte for
+//! byte, texts that are no scripts, and devices that fail in mid-stream.
 #![tactic(auto)]
 
 #[cfg(test)]
@@ -10,10 +10,6 @@ mod devices;
 mod faults;
 #[cfg(test)]
 mod first_form;
-#[cfg(test)]
-mod names;
-#[cfg(test)]
-mod plain_data;
 #[cfg(test)]
 mod program;
 #[cfg(test)]

@@ -64,7 +64,7 @@ fn a_fault_of_a_chart_is_told_with_its_place(rt: HostRuntime) -> Result<(), Fail
     Ok(())
 }
 
-/// A chart of one state, with so many spaces behind it.
+/// A chart of one state, with so many spaces after it.
 fn chart_with(alloc: Global, spaces: usize) -> Result<Vec<u8>, NoMemory> {
     let mut text = Vec::from_slice(alloc, br#"{"tag":"scxml","kids":[{"tag":"state"}]}"#)?;
     for _ in 0..spaces {
@@ -100,7 +100,7 @@ fn a_failed_read_of_a_chart_is_told(rt: HostRuntime) -> Result<(), Fail> {
 }
 
 #[test]
-fn a_failed_write_of_a_check_leaves_a_front(rt: HostRuntime) -> Result<(), Fail> {
+fn a_failed_write_of_a_check_leaves_its_first_part(rt: HostRuntime) -> Result<(), Fail> {
     let mut source = MemSource::new(
         rt.alloc(),
         br#"{"tag":"scxml","kids":[{"tag":"state"}]}"#,

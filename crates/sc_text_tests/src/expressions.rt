@@ -1,3 +1,4 @@
+use crate::recipes::large;
 use sc_expr::{ExprFault, print_expr, print_value, read_delay, read_expr, read_value};
 use sc_types::Bytes;
 use std::alloc::Global;
@@ -356,24 +357,6 @@ fn outcome(printed: &[u8]) -> &'static str {
     } else {
         "read"
     }
-}
-
-/// The text that is put together so: each piece as often as the number before it says, else once.
-pub(crate) fn large(alloc: Global, recipe: &str) -> Result<Vec<u8>, Fail> {
-    let mut text = Vec::new(alloc);
-    let mut times = 1;
-    for word in recipe.split_whitespace() {
-        match word.parse::<u32>() {
-            Ok(number) => times = number,
-            Err(_) => {
-                for _ in 0..times {
-                    text.extend_from_slice(word.as_bytes())?;
-                }
-                times = 1;
-            }
-        }
-    }
-    Ok(text)
 }
 
 #[test]

@@ -1,7 +1,7 @@
 use Rattle.std.proofs.Common.{[], arith}
 use Rattle.sc_types.specs.Sends.{with_send}
 use Rattle.sc_timers.proofs.CallerLemmas.{below-none, below-with_send}
-use Rattle.sc_leaf_tests.proofs.timers.three.Goals as goal
+use Rattle.sc_text_tests.proofs.timers.three.Goals as goal
 
 pub add-requires-3-clause-newest : goal.add-requires-3-clause-newest
 add-requires-3-clause-newest c =

@@ -1,7 +1,7 @@
 use crate::program::{RUN, call};
 use std::test::Fail;
 
-/// What stands before and behind the attributes of the root of a chart, and before and behind the child elements of
+/// What stands before and after the attributes of the root of a chart, and before and after the child elements of
 /// its state, in a script.
 const ROOT: [&str; 2] = [
     r#"chart m {"tag":"scxml""#,

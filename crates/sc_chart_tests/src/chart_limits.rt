@@ -1,5 +1,5 @@
 use crate::charts::outcome;
-use crate::expressions::large;
+use crate::recipes::large;
 use std::test::Fail;
 
 /// Each line tells how a text is put together, how often and what, and the outcome of its reading.

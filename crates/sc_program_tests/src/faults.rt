@@ -17,7 +17,7 @@ fn a_failed_read_is_told(rt: HostRuntime) -> Result<(), Fail> {
 }
 
 #[test]
-fn a_failed_write_leaves_a_front_of_the_output(rt: HostRuntime) -> Result<(), Fail> {
+fn a_failed_write_leaves_the_first_part_of_the_output(rt: HostRuntime) -> Result<(), Fail> {
     for (room, most, failing, taken) in [
         (1000, 3, 2, "ope"),
         (1000, 3, 1, ""),
