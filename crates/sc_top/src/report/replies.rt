@@ -96,6 +96,7 @@ fn put_cue(alloc: Global, out: &mut Vec<u8>, cue: CueName) -> Result<(), NoMemor
     match cue {
         CueName::Fresh => put(out, b"fresh"),
         CueName::Resume => put(out, b"resume"),
+        CueName::Cancel => put(out, b"cancel"),
         CueName::External(number) => {
             put(out, b"external ")?;
             put_number(alloc, out, number)
