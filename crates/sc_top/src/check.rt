@@ -1,7 +1,7 @@
 ghost use Rattle.std.specs.Prelude.{◌≡◌, ◌+◌, ◌++◌, Ok, Err, IfOk, OnOk, if◌then◌else◌, decimal, codes};
 ghost use Rattle.sc_types.specs.declared.chart.ChartFault.{ChartFault};
 ghost use Rattle.sc_types.specs.ChartTexts.{states_in, count_states};
-ghost use Rattle.sc_types.specs.Elements.{is_state};
+ghost use Rattle.sc_types.specs.Elements.{is_numbered};
 ghost use Rattle.sc_law.specs.LegalCharts.{legal_chart_of};
 ghost use Rattle.sc_law.specs.Lines.{line};
 ghost use Rattle.sc_law.specs.Report.{fault_text};
@@ -70,9 +70,9 @@ fn states_in(node: &Node) -> Result<u64, NoMemory>
 }
 
 fn states_at(tag: Tag) -> u64
-    ensures { result ≡ (if is_state tag then 1 else 0) }
+    ensures { result ≡ (if is_numbered tag then 1 else 0) }
 {
-    if tag.is_state() { 1 } else { 0 }
+    if tag.is_numbered() { 1 } else { 0 }
 }
 
 /// The sum of two counts of states. A chart with 2^64 states is larger than any memory.

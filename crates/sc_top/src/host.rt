@@ -1,7 +1,7 @@
 ghost use Rattle.std.specs.Prelude.{◌≡◌, ◌+◌, ◌^◌, ◌<◌, [], Some, option_map, is_some, find, unwrap_or, slice_get, IfSome, IfOk, OnOk, length};
 ghost use Rattle.std.specs.Option.{option_copied};
 ghost use Rattle.sc_law.specs.Host.{empty_host, has_chart, chart_place, chart_named, bare_chart, session_place, session_named, not_read, fresh_state, fresh_session, has_slash, pairs_data, posted_event, waiting_cue, cue_of, name_of, queue_left, queue_of_phase, ready};
-ghost use Rattle.sc_law.specs.Turn.{turn};
+ghost use Rattle.sc_law.specs.Flat.Turn.{turn};
 
 use crate::flat::read_flat_chart;
 use sc_law::{Tree, TurnResult, turn};
@@ -293,6 +293,7 @@ fn name_of(cue: &Cue) -> CueName
     match cue {
         Cue::Fresh => CueName::Fresh,
         Cue::Resume => CueName::Resume,
+        Cue::Cancel => CueName::Cancel,
         Cue::External(event) => CueName::External(event.number),
     }
 }

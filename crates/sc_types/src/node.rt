@@ -68,8 +68,8 @@ impl Node {
         ensures { result.now ≡ words_at attribute self.now }
     {
         match self.attribute(attribute) {
-            Some(member) => member.words(),
-            None => &[],
+            Some(Member::Items(words)) => words.slice(),
+            _ => &[],
         }
     }
 

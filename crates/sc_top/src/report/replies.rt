@@ -94,6 +94,7 @@ fn put_cue(out: &mut TextWriter, cue: CueName) -> Result<(), NoMemory>
     match cue {
         CueName::Fresh => out.text("fresh"),
         CueName::Resume => out.text("resume"),
+        CueName::Cancel => out.text("cancel"),
         CueName::External(number) => {
             out.text("external ")?;
             out.number(number)
