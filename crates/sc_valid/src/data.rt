@@ -49,7 +49,8 @@ fn needs_data(node: &Node) -> bool
 }
 
 fn is_of_data(tag: Tag) -> bool
-    ensures { result ≡ is_among (tag_name.DataItem ∷ tag_name.Assign ∷ tag_name.ForEach ∷ tag_name.Param ∷ tag_name.Content ∷ []) tag }
+    ensures { result ≡ is_among (tag_name.DataItem ∷ tag_name.Assign ∷ tag_name.ForEach ∷ tag_name.Param
+        ∷ tag_name.Content ∷ []) tag }
 {
     matches!(
         tag,
@@ -58,7 +59,8 @@ fn is_of_data(tag: Tag) -> bool
 }
 
 fn has_data_attribute(node: &Node) -> bool
-    ensures { result ≡ list_any (λ a. has a node.now) (attribute.Expr ∷ attribute.EventExpr ∷ attribute.DelayExpr ∷ attribute.SendIdExpr ∷ attribute.NameList ∷ attribute.IdLocation ∷ []) }
+    ensures { result ≡ list_any (λ a. has a node.now) (attribute.Expr ∷ attribute.EventExpr
+        ∷ attribute.DelayExpr ∷ attribute.SendIdExpr ∷ attribute.NameList ∷ attribute.IdLocation ∷ []) }
 {
     has(Attribute::Expr, node)
         || has(Attribute::EventExpr, node)

@@ -38,7 +38,9 @@ impl<'c> Model for ChartIndex<'c> {
 
     ghost view = { λ i. i.chart.now };
 
-    ghost invariant = { λ i. HasFirsts i.states is_state i.chart.now × HasFirsts i.invokes (is_tag tag_name.Invoke) i.chart.now × HasFirsts i.data_items (is_tag tag_name.DataItem) i.chart.now };
+    ghost invariant = { λ i. HasFirsts i.states is_state i.chart.now
+        × HasFirsts i.invokes (is_tag tag_name.Invoke) i.chart.now
+        × HasFirsts i.data_items (is_tag tag_name.DataItem) i.chart.now };
 }
 
 impl<'c> ChartIndex<'c> {

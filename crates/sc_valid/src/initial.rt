@@ -79,7 +79,9 @@ impl<'c> ChartIndex<'c> {
     }
 
     fn is_bad_record(&self, alloc: Global, path: &[usize], node: &Node) -> Result<bool, NoMemory>
-        ensures { IfOk result (λ b. b ≡ option_map_or (λ ids. are_bad_recorded self.now path.now (targets self.now ids)) (default_ids node.now) true) }
+        ensures { IfOk result (λ b. b
+            ≡ option_map_or (λ ids. are_bad_recorded self.now path.now (targets self.now ids))
+            (default_ids node.now) true) }
     {
         match default_ids(node) {
             Some(ids) => {
@@ -123,7 +125,8 @@ impl<'c> ChartIndex<'c> {
 }
 
 fn is_bad_below(node: &Node, path: &[usize], targets: &[Path]) -> bool
-    ensures { result ≡ (is_atomic_element node.now (tag_of node.now) || is_state_or_parallel (tag_of node.now) && not (are_below path.now targets.now)) }
+    ensures { result ≡ (is_atomic_element node.now (tag_of node.now)
+        || is_state_or_parallel (tag_of node.now) && not (are_below path.now targets.now)) }
 {
     is_atomic_element(node) || is_state_or_parallel(node.tag) && !are_below(path, targets)
 }

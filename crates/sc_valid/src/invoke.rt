@@ -80,14 +80,16 @@ fn is_bad_send_node(node: &Node) -> bool
 }
 
 fn has_data_twice(node: &Node) -> bool
-    ensures { result ≡ (has_kid tag_name.Content node.now && (has attribute.NameList node.now || has_kid tag_name.Param node.now)) }
+    ensures { result ≡ (has_kid tag_name.Content node.now
+        && (has attribute.NameList node.now || has_kid tag_name.Param node.now)) }
 {
     has_kid(Tag::Content, node) && (has(Attribute::NameList, node) || has_kid(Tag::Param, node))
 }
 
 /// Whether a delayed event goes to the session's own internal queue.
 fn is_delayed_within(node: &Node) -> bool
-    ensures { result ≡ ((has attribute.Delay node.now || has attribute.DelayExpr node.now) && is_text_at attribute.Target (codes "#_internal") node.now) }
+    ensures { result ≡ ((has attribute.Delay node.now || has attribute.DelayExpr node.now)
+        && is_text_at attribute.Target (codes "#_internal") node.now) }
 {
     (has(Attribute::Delay, node) || has(Attribute::DelayExpr, node))
         && is_text_at(Attribute::Target, b"#_internal", node)
