@@ -35,6 +35,7 @@ filter-first x xs = by (nat_lt 0 (length x))
     by true = refl
     by false = refl
 
+-- the pieces of a text are the one before its first white space and those behind it
 pub pieces-first : (xs : List ℕ) (i : ℕ) → position is_white_space xs ≡ Some i → pieces xs ≡ kept (take i xs) ++ pieces (drop (i + 1) xs)
 pieces-first xs i found =
     let first = position-Some is_white_space xs i 0 found in
@@ -43,6 +44,7 @@ pieces-first xs i found =
     ∙ filter-first (take i xs) (split_at is_white_space (drop (suc i) xs))
     ∙ ap (λ n. kept (take i xs) ++ pieces (drop n xs)) next
 
+-- a text without white space is its only piece, if it has something in it
 pub pieces-only : (xs : List ℕ) → position is_white_space xs ≡ None → pieces xs ≡ kept xs
 pieces-only xs found =
     let whole : length xs ≤ position_or_len is_white_space xs = grind (arith, common_steps) in

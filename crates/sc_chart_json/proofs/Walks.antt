@@ -18,6 +18,7 @@ below : (path : List ℕ) (d : Data) → length path ≤ 40
     → places (levels_at path) path d ≡ place path d ∷ kid_places (places (40 - length path)) path 0 (kids_at d)
 below path d h = rw (one_more (length path) h) refl
 
+-- a fault of an element itself comes before those of all below it and behind it
 pub own_stops : (before : ℕ) (path : List ℕ) (d : Data) (f : ChartFault) → length path ≤ 40 → own_fault expr_of before (place path d) ≡ Some f
     → Stops before (places (levels_at path) path d) f
 own_stops before path d f h e rest = rw (below path d h, e) refl
@@ -27,6 +28,7 @@ passed : (before after : ℕ) (path : List ℕ) (d : Data) (rest : List Place) �
     → first_fault expr_of before (places (levels_at path) path d ++ rest) ≡ first_fault expr_of after (kid_places (places (40 - length path)) path 0 (kids_at d) ++ rest)
 passed before after path d rest h e n = rw (below path d h, e, n) refl
 
+-- where the element itself has no fault, the first one of its child elements is the first of all
 pub element_stops : (old mid : Walk) (d : Data) (own : Own) (f : ChartFault) → IsOwn old mid d own
     → Stops mid.states (kid_places (places (40 - length mid.path)) mid.path 0 (kids_at d)) f → Stops old.states (places (levels_at old.path) old.path d) f
 element_stops old mid d own f is stops rest =
@@ -38,6 +40,7 @@ element_tree : (old mid : Walk) (d : Data) (own : Own) (kids : List Node) → Is
 element_tree old mid d own kids is e =
     rw (one_more (length old.path) (omega (arith, is.shallow)), is.tag, is.members, e, is.path) refl
 
+-- an element was read once it and its child elements were
 pub element_read : (old mid new : Walk) (d : Data) (own : Own) (kids : List Node) → IsOwn old mid d own → AreRead mid new (kids_at d) kids
     → IsRead old new d (node own.tag own.members kids)
 element_read old mid new d own kids is read = record {
@@ -62,12 +65,14 @@ kid_first s p0 p i d more rest e h =
     ap (first_fault expr_of s) (append_assoc (places (40 - length p0) (p0 ++ i ∷ []) d) (kid_places (places (40 - length p0)) p0 (suc i) more) rest)
     ∙ rw (kid_levels p0 p i e h, e) refl
 
+-- where the child elements before it have no fault, the first one of a child element is the first of all
 pub kid_stops : (old now : Walk) (ds more : Items) (d : Data) (i : ℕ) (kids : List Node) (p : List ℕ) (f : ChartFault)
     → AreReading old now ds (item d more) i kids → length old.path < 40 → p ≡ now.path ++ i ∷ []
     → Stops now.states (places (levels_at p) p d) f → Stops old.states (kid_places (places (40 - length old.path)) old.path 0 ds) f
 kid_stops old now ds more d i kids p f are h e stops rest =
     are.passes rest ∙ kid_first now.states old.path p i d more rest (e ∙ ap (λ path. path ++ i ∷ []) are.path) h ∙ stops _
 
+-- one child element more was read
 pub kid_read : (old now under new : Walk) (ds more : Items) (d : Data) (i : ℕ) (kids : List Node) (n : Node)
     → AreReading old now ds (item d more) i kids → length old.path < 40
     → under.path ≡ now.path ++ i ∷ [] → under.states ≡ now.states → IsRead under new d n
@@ -98,10 +103,12 @@ popped (Some last) old new path k h e = (same_from_push new path last k (sym h �
 whole : (ps : List Place) → first_fault expr_of 0 ps ≡ first_fault expr_of 0 (ps ++ [])
 whole ps = ap (first_fault expr_of 0) (sym (append-nil ps))
 
+-- the first fault of the root and all below it is that of the value
 pub root_stops : (path : List ℕ) (d : Data) (f : ChartFault) → path ≡ [] → Stops 0 (places (levels_at path) path d) f → value_fault expr_of d ≡ Some f
 unfolding value_fault
 root_stops path d f e stops = whole (places 41 [] d) ∙ ap (λ path. first_fault expr_of 0 (places (levels_at path) path d ++ [])) (sym e) ∙ stops []
 
+-- a root that was read has no fault, and its tree is the chart
 pub root_read : (path : List ℕ) (new : Walk) (d : Data) (n : Node) → path ≡ [] → IsRead (record { path = path; states = 0 }) new d n
     → (value_fault expr_of d ≡ None) × (record { root = n } ≡ value_chart expr_of d)
 unfolding value_fault value_chart

@@ -8,4 +8,6 @@ kept piece = if nat_lt 0 (length piece) then piece ∷ [] else []
 
 -- something, with no white space round it
 abbrev pub is_tight : List ℕ → Bool
-is_tight text = nat_lt 0 (length text) && not (is_white_space (slice_index text 0)) && not (is_white_space (slice_index text (length text - 1)))
+is_tight text =
+    nat_lt 0 (length text) && not (is_white_space (slice_index text 0))
+    && not (is_white_space (slice_index text (length text - 1)))

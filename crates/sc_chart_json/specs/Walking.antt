@@ -6,6 +6,7 @@ use Rattle.sc_types.specs.ChartTexts.{Place, tag_at, kid_places, places, own_fau
 use Rattle.sc_types.specs.declared.chart.ChartFault.{ChartFault}
 use Rattle.sc_types.specs.declared.chart.Node.{Node}
 use Rattle.sc_expr.specs.Reading.{expr_of}
+use Rattle.sc_types.specs.declared.limits.TheConstants.{LEVEL_LIMIT, STATE_LIMIT}
 use Rattle.sc_chart_json.specs.declared.reader.Own.{Own}
 use Rattle.sc_chart_json.specs.declared.reader.Walk.{Walk}
 
@@ -18,11 +19,12 @@ Stops before ps f = (rest : List Place) → first_fault expr_of before (ps ++ re
 
 -- these elements have no fault, so that the first one is that of the elements behind them
 abbrev pub Passes : ℕ → List Place → ℕ → Type 0
-Passes before ps after = (rest : List Place) → first_fault expr_of before (ps ++ rest) ≡ first_fault expr_of after rest
+Passes before ps after =
+    (rest : List Place) → first_fault expr_of before (ps ++ rest) ≡ first_fault expr_of after rest
 
 -- how many levels an element at this path and those below it may have
 abbrev pub levels_at : List ℕ → ℕ
-levels_at path = 41 - length path
+levels_at path = LEVEL_LIMIT + 1 - length path
 
 -- the element without its child elements was read
 pub record IsOwn (old new : Walk) (d : Data) (own : Own) : Type 0 where
@@ -30,28 +32,30 @@ pub record IsOwn (old new : Walk) (d : Data) (own : Own) : Type 0 where
   pub states : new.states ≡ old.states + states_at (place old.path d)
   pub tag : tag_at d ≡ Some own.tag
   pub members : own.members ≡ members_at expr_of own.tag d
-  pub shallow : length old.path < 40
+  pub shallow : length old.path < LEVEL_LIMIT
   pub path : new.path ≡ old.path
-  pub few : new.states ≤ 4096
+  pub few : new.states ≤ STATE_LIMIT
 
 -- the element was read with all below it
 pub record IsRead (old new : Walk) (d : Data) (n : Node) : Type 0 where
   pub passes : Passes old.states (places (levels_at old.path) old.path d) new.states
   pub tree : n ≡ tree expr_of (levels_at old.path) d
   pub path : new.path ≡ old.path
-  pub few : new.states ≤ 4096
+  pub few : new.states ≤ STATE_LIMIT
 
 -- the child elements of an element were read; it has one more level than they
 pub record AreRead (old new : Walk) (ds : Items) (kids : List Node) : Type 0 where
-  pub passes : Passes old.states (kid_places (places (40 - length old.path)) old.path 0 ds) new.states
-  pub trees : kids ≡ kid_trees (tree expr_of (40 - length old.path)) ds
+  pub passes : Passes old.states (kid_places (places (LEVEL_LIMIT - length old.path)) old.path 0 ds) new.states
+  pub trees : kids ≡ kid_trees (tree expr_of (LEVEL_LIMIT - length old.path)) ds
   pub path : new.path ≡ old.path
-  pub few : new.states ≤ 4096
+  pub few : new.states ≤ STATE_LIMIT
 
 -- so far some of them were read, and these are the others
 pub record AreReading (old new : Walk) (ds more : Items) (i : ℕ) (kids : List Node) : Type 0 where
-  pub passes : (rest : List Place) → first_fault expr_of old.states (kid_places (places (40 - length old.path)) old.path 0 ds ++ rest)
-      ≡ first_fault expr_of new.states (kid_places (places (40 - length old.path)) old.path i more ++ rest)
-  pub trees : kids ++ kid_trees (tree expr_of (40 - length old.path)) more ≡ kid_trees (tree expr_of (40 - length old.path)) ds
+  pub passes : (rest : List Place)
+      → first_fault expr_of old.states (kid_places (places (LEVEL_LIMIT - length old.path)) old.path 0 ds ++ rest)
+      ≡ first_fault expr_of new.states (kid_places (places (LEVEL_LIMIT - length old.path)) old.path i more ++ rest)
+  pub trees : kids ++ kid_trees (tree expr_of (LEVEL_LIMIT - length old.path)) more
+      ≡ kid_trees (tree expr_of (LEVEL_LIMIT - length old.path)) ds
   pub path : new.path ≡ old.path
-  pub few : new.states ≤ 4096
+  pub few : new.states ≤ STATE_LIMIT

@@ -163,8 +163,10 @@ pub(crate) fn read_members(
     tag: Tag,
     value: &Value,
 ) -> Result<Sequence<(Bytes, Member)>, Unread>
-    ensures ok { IfOk result (λ ms. (bad_code expr_of tag (view value.now) ≡ None) × (ms ≡ members_at expr_of tag (view value.now))) }
-    ensures bad { (a : Attribute) → result ≡ Err (Unread.BadCode a) → bad_code expr_of tag (view value.now) ≡ Some a }
+    ensures ok { IfOk result (λ ms. (bad_code expr_of tag (view value.now) ≡ None)
+        × (ms ≡ members_at expr_of tag (view value.now))) }
+    ensures bad { (a : Attribute) → result ≡ Err (Unread.BadCode a)
+        → bad_code expr_of tag (view value.now) ≡ Some a }
 {
     read_all(alloc, attributes(tag), tag, value)
 }
@@ -175,13 +177,15 @@ fn read_all(
     tag: Tag,
     value: &Value,
 ) -> Result<Sequence<(Bytes, Member)>, Unread>
-    ensures ok { IfOk result (λ ms. (find (is_bad_code expr_of tag (view value.now)) attributes.now ≡ None) × (ms ≡ filter_map (member_at expr_of tag (view value.now)) attributes.now)) }
-    ensures bad { (a : Attribute) → result ≡ Err (Unread.BadCode a) → find (is_bad_code expr_of tag (view value.now)) attributes.now ≡ Some a }
+    ensures ok { IfOk result (λ ms. (find (is_bad_code expr_of tag (view value.now)) attributes.now ≡ None)
+        × (ms ≡ filter_map (member_at expr_of tag (view value.now)) attributes.now)) }
+    ensures bad { (a : Attribute) → result ≡ Err (Unread.BadCode a)
+        → find (is_bad_code expr_of tag (view value.now)) attributes.now ≡ Some a }
 {
     let mut members = Sequence::new(alloc);
     for attribute in attributes {
         if let Some(member) = read_member(alloc, tag, value, *attribute)? {
-            let name = Sequence::from_slice(alloc, attribute.text().as_bytes())?;
+            let name = Bytes::from_slice(alloc, attribute.text().as_bytes())?;
             members.push((name, member))?;
         }
     }
@@ -194,8 +198,10 @@ fn read_member(
     value: &Value,
     attribute: Attribute,
 ) -> Result<Option<Member>, Unread>
-    ensures ok { IfOk result (λ o. (is_bad_code expr_of tag (view value.now) attribute ≡ false) × (option_map (λ m. (attribute_text attribute, m)) o ≡ member_at expr_of tag (view value.now) attribute)) }
-    ensures bad { (a : Attribute) → result ≡ Err (Unread.BadCode a) → (a ≡ attribute) × (is_bad_code expr_of tag (view value.now) attribute ≡ true) }
+    ensures ok { IfOk result (λ o. (is_bad_code expr_of tag (view value.now) attribute ≡ false)
+        × (option_map (λ m. (attribute_text attribute, m)) o ≡ member_at expr_of tag (view value.now) attribute)) }
+    ensures bad { (a : Attribute) → result ≡ Err (Unread.BadCode a) → (a ≡ attribute)
+        × (is_bad_code expr_of tag (view value.now) attribute ≡ true) }
 {
     match text_at(value, attribute.text()) {
         Some(text) => read_text(alloc, attribute, attribute.form(tag), text),
@@ -210,8 +216,10 @@ fn read_text(
     form: Form,
     text: &[u8],
 ) -> Result<Option<Member>, Unread>
-    ensures ok { IfOk result (λ o. (is_code form && is_none (expr_of text.now) ≡ false) × (o ≡ member_of expr_of form text.now)) }
-    ensures bad { (a : Attribute) → result ≡ Err (Unread.BadCode a) → (a ≡ attribute) × (is_code form && is_none (expr_of text.now) ≡ true) }
+    ensures ok { IfOk result (λ o. (is_code form && is_none (expr_of text.now) ≡ false)
+        × (o ≡ member_of expr_of form text.now)) }
+    ensures bad { (a : Attribute) → result ≡ Err (Unread.BadCode a) → (a ≡ attribute)
+        × (is_code form && is_none (expr_of text.now) ≡ true) }
 {
     match form {
         Form::Code => Ok(Some(read_code(alloc, attribute, text)?)),
@@ -219,7 +227,7 @@ fn read_text(
             Ok(Some(Member::Items(pieces(alloc, text)?)))
         }
         Form::Version | Form::NameSpace => Ok(None),
-        _ => Ok(Some(Member::Plain(Sequence::from_slice(alloc, text)?))),
+        _ => Ok(Some(Member::Plain(Bytes::from_slice(alloc, text)?))),
     }
 }
 
@@ -229,7 +237,17 @@ fn read_code(alloc: Global, attribute: Attribute, text: &[u8]) -> Result<Member,
 {
     match read_expr(alloc, text) {
         Ok(code) => Ok(Member::Code(code)),
-        Err(ExprFault::NotExpr) => Err(Unread::BadCode(attribute)),
-        Err(ExprFault::NoMemory) => Err(Unread::NoMemory),
+        Err(fault) => Err(code_unread(attribute, fault)),
+    }
+}
+
+/// Why the expression of an attribute is not read.
+fn code_unread(attribute: Attribute, fault: ExprFault) -> Unread
+    ensures outside { fault ≡ ExprFault.NotExpr → result ≡ Unread.BadCode attribute }
+    ensures memory { fault ≡ ExprFault.NoMemory → result ≡ Unread.NoMemory }
+{
+    match fault {
+        ExprFault::NotExpr => Unread::BadCode(attribute),
+        ExprFault::NoMemory => Unread::NoMemory,
     }
 }

@@ -34,7 +34,7 @@ fn put_piece(alloc: Global, pieces: &mut Sequence<Bytes>, piece: &[u8]) -> Resul
     if piece.is_empty() {
         return Ok(());
     }
-    pieces.push(Sequence::from_slice(alloc, piece)?)
+    pieces.push(Bytes::from_slice(alloc, piece)?)
 }
 
 /// Whether a text has something in it, and no white space before or behind.

@@ -1,45 +1,25 @@
-ghost use Rattle.std.specs.Prelude.{◌≡◌, ◌<◌, ◌≤◌, ◌+◌, ◌-◌, ℕ, [], ◌∷◌, Option, None, Some, Ok, Err, IfOk, OnOk, length, if◌then◌else◌};
+ghost use Rattle.std.specs.Prelude.{◌≡◌, ◌<◌, ◌≤◌, ◌+◌, ◌-◌, ◌^◌, nat_lt, ℕ, [], ◌∷◌, Option, None, Some, Ok, Err, IfOk, OnOk, length, if◌then◌else◌};
 ghost use Rattle.std.specs.Option.{option_map_or};
 ghost use Rattle.sc_types.specs.Elements.{is_numbered, attribute_text};
+ghost use Rattle.serde_json.specs.Errors.{IsMemory};
 ghost use Rattle.serde_json.specs.View.{view, items_view};
 ghost use Rattle.sc_types.specs.ChartTexts.{chart_of, fault, own_fault, many_fault, bad_code, tag_at, kid_places, places, value_fault, value_chart, members_at};
 ghost use Rattle.sc_types.specs.declared.chart.ChartFault.{ChartFault};
+ghost use Rattle.sc_types.specs.declared.faults.TheConstants.{BAD_EXPR, NOT_JSON};
+ghost use Rattle.sc_types.specs.declared.limits.TheConstants.{LEVEL_LIMIT, STATE_LIMIT};
 ghost use Rattle.sc_expr.specs.Reading.{expr_of};
 ghost use Rattle.sc_chart_json.specs.Walking.{place, Stops, levels_at, IsOwn, IsRead, AreRead};
 
 use crate::members::{Unread, has_fit_members, has_known_members, kids_at, read_members, text_at};
-use sc_types::{
-    Attribute, Bytes, Chart, ChartFault, ChartRefusal, Member, NoMemory, Node, Plain, Sequence, Tag,
+use sc_base::{Bytes, NoMemory, Plain, Sequence};
+use sc_types::faults::{
+    BAD_EXPR, BAD_MEMBER, NOT_ELEMENT, NOT_JSON, TOO_DEEP, TOO_LARGE, TOO_MANY, UNKNOWN_MEMBER, UNKNOWN_TAG,
 };
-use serde_json::{Category, Value};
+use sc_types::{
+    Attribute, CHART_TEXT_LIMIT, Chart, ChartFault, ChartRefusal, LEVEL_LIMIT, Member, Node, STATE_LIMIT, Tag,
+};
+use serde_json::{Category, Error, Value};
 use std::alloc::Global;
-
-/// The most bytes that a chart's text may have.
-const TEXT_LIMIT: usize = 1_048_576;
-
-/// The most levels that a chart may have.
-const LEVEL_LIMIT: usize = 40;
-
-/// The most states that a chart may have, with its histories.
-const STATE_LIMIT: u32 = 4096;
-
-const NOT_JSON: u8 = 1;
-
-const NOT_ELEMENT: u8 = 2;
-
-const UNKNOWN_TAG: u8 = 3;
-
-const UNKNOWN_MEMBER: u8 = 4;
-
-const BAD_MEMBER: u8 = 5;
-
-const BAD_EXPR: u8 = 6;
-
-const TOO_DEEP: u8 = 7;
-
-const TOO_MANY: u8 = 8;
-
-const TOO_LARGE: u8 = 9;
 
 /// The chart that a text spells, or its first fault.
 #[tactic(auto, using(crate::proofs::Wholes::wholes))]
@@ -47,15 +27,23 @@ pub fn read_chart(alloc: Global, text: &[u8]) -> Result<Chart, ChartRefusal>
     ensures chart { IfOk result (λ c. chart_of expr_of text.now ≡ Ok c) }
     ensures fault { (f : ChartFault) → result ≡ Err (ChartRefusal.Fault f) → chart_of expr_of text.now ≡ Err f }
 {
-    if text.len() > TEXT_LIMIT {
+    if text.len() > CHART_TEXT_LIMIT {
         return Err(fault(alloc, TOO_LARGE));
     }
     match Value::from_slice(alloc, text) {
         Ok(value) => read_root(alloc, &value),
-        Err(error) => match error.classify() {
-            Category::Memory => Err(ChartRefusal::NoMemory),
-            _ => Err(fault(alloc, NOT_JSON)),
-        },
+        Err(error) => Err(refusal_of(alloc, &error)),
+    }
+}
+
+/// Why no value was read: memory, or a text that is no JSON.
+fn refusal_of(alloc: Global, error: &Error) -> ChartRefusal
+    ensures memory { IsMemory error.now → result ≡ ChartRefusal.NoMemory }
+    ensures not_json { ¬ IsMemory error.now → result ≡ ChartRefusal.Fault (fault NOT_JSON [] []) }
+{
+    match error.classify() {
+        Category::Memory => ChartRefusal::NoMemory,
+        _ => fault(alloc, NOT_JSON),
     }
 }
 
@@ -66,14 +54,16 @@ fn fault(alloc: Global, number: u8) -> ChartRefusal
     ChartRefusal::Fault(ChartFault {
         number,
         path: Sequence::new(alloc),
-        member: Sequence::new(alloc),
+        member: Bytes::new(alloc),
     })
 }
 
 #[tactic(auto, using(crate::proofs::Walks::walks))]
 fn read_root(alloc: Global, value: &Value) -> Result<Chart, ChartRefusal>
-    ensures chart { IfOk result (λ c. (value_fault expr_of (view value.now) ≡ None) × (c ≡ value_chart expr_of (view value.now))) }
-    ensures fault { (f : ChartFault) → result ≡ Err (ChartRefusal.Fault f) → value_fault expr_of (view value.now) ≡ Some f }
+    ensures chart { IfOk result (λ c. (value_fault expr_of (view value.now) ≡ None)
+        × (c ≡ value_chart expr_of (view value.now))) }
+    ensures fault { (f : ChartFault) → result ≡ Err (ChartRefusal.Fault f)
+        → value_fault expr_of (view value.now) ≡ Some f }
 {
     let mut walk = Walk {
         path: Sequence::new(alloc),
@@ -121,16 +111,17 @@ impl Walk {
         Ok(ChartFault {
             number,
             path: self.path.copy()?,
-            member: Sequence::from_slice(alloc, member)?,
+            member: Bytes::from_slice(alloc, member)?,
         })
     }
 
     /// Reads an element without its child elements.
     #[tactic(auto, using(crate::proofs::Faults::own_faults))]
     fn own(&mut self, alloc: Global, value: &Value) -> Result<Own, ChartRefusal>
-        requires { self.old.states ≤ 4096 }
+        requires { self.old.states ≤ STATE_LIMIT }
         ensures ok { IfOk result (IsOwn self.old self.new (view value.now)) }
-        ensures fault { (f : ChartFault) → result ≡ Err (ChartRefusal.Fault f) → own_fault expr_of self.old.states (place self.old.path (view value.now)) ≡ Some f }
+        ensures fault { (f : ChartFault) → result ≡ Err (ChartRefusal.Fault f)
+            → own_fault expr_of self.old.states (place self.old.path (view value.now)) ≡ Some f }
     {
         let tag = self.tag(alloc, value)?;
         if !has_known_members(tag, value) {
@@ -146,8 +137,9 @@ impl Walk {
 
     #[tactic(auto, using(crate::proofs::Faults::tag_faults))]
     fn tag(&self, alloc: Global, value: &Value) -> Result<Tag, ChartRefusal>
-        ensures ok { IfOk result (λ t. (tag_at (view value.now) ≡ Some t) × (length self.now.path < 40)) }
-        ensures fault { (f : ChartFault) → result ≡ Err (ChartRefusal.Fault f) → (before : ℕ) → own_fault expr_of before (place self.now.path (view value.now)) ≡ Some f }
+        ensures ok { IfOk result (λ t. (tag_at (view value.now) ≡ Some t) × (length self.now.path < LEVEL_LIMIT)) }
+        ensures fault { (f : ChartFault) → result ≡ Err (ChartRefusal.Fault f) → (before : ℕ)
+            → own_fault expr_of before (place self.now.path (view value.now)) ≡ Some f }
     {
         let Some(name) = text_at(value, "tag") else {
             return Err(self.fault(alloc, NOT_ELEMENT));
@@ -167,8 +159,11 @@ impl Walk {
         tag: Tag,
         value: &Value,
     ) -> Result<Sequence<(Bytes, Member)>, ChartRefusal>
-        ensures ok { IfOk result (λ ms. (bad_code expr_of tag (view value.now) ≡ None) × (ms ≡ members_at expr_of tag (view value.now))) }
-        ensures fault { (f : ChartFault) → result ≡ Err (ChartRefusal.Fault f) → (later : Option ChartFault) → option_map_or (λ a. Some (fault 6 self.now.path (attribute_text a))) (bad_code expr_of tag (view value.now)) later ≡ Some f }
+        ensures ok { IfOk result (λ ms. (bad_code expr_of tag (view value.now) ≡ None)
+            × (ms ≡ members_at expr_of tag (view value.now))) }
+        ensures fault { (f : ChartFault) → result ≡ Err (ChartRefusal.Fault f) → (later : Option ChartFault)
+            → option_map_or (λ a. Some (fault BAD_EXPR self.now.path (attribute_text a)))
+            (bad_code expr_of tag (view value.now)) later ≡ Some f }
     {
         match read_members(alloc, tag, value) {
             Ok(members) => Ok(members),
@@ -181,12 +176,13 @@ impl Walk {
 
     /// Counts the element where it is a state.
     fn count(&mut self, alloc: Global, tag: Tag) -> Result<(), ChartRefusal>
-        requires { self.old.states ≤ 4096 }
+        requires { self.old.states ≤ STATE_LIMIT }
         ensures none { OnOk result (many_fault self.old.states self.old.path tag ≡ None) }
         ensures states { OnOk result (self.new.states ≡ self.old.states + (if is_numbered tag then 1 else 0)) }
-        ensures few { OnOk result (self.new.states ≤ 4096) }
+        ensures few { OnOk result (self.new.states ≤ STATE_LIMIT) }
         ensures path { OnOk result (self.new.path ≡ self.old.path) }
-        ensures fault { (f : ChartFault) → result ≡ Err (ChartRefusal.Fault f) → many_fault self.old.states self.old.path tag ≡ Some f }
+        ensures fault { (f : ChartFault) → result ≡ Err (ChartRefusal.Fault f)
+            → many_fault self.old.states self.old.path tag ≡ Some f }
     {
         if !tag.is_numbered() {
             return Ok(());
@@ -202,10 +198,11 @@ impl Walk {
 #[cycle(element)]
 #[tactic(auto, using(crate::proofs::Walks::walks))]
 fn read_element(alloc: Global, walk: &mut Walk, value: &Value) -> Result<Node, ChartRefusal>
-    requires few { walk.old.states ≤ 4096 }
-    requires shallow { length walk.old.path ≤ 40 }
+    requires few { walk.old.states ≤ STATE_LIMIT }
+    requires shallow { length walk.old.path ≤ LEVEL_LIMIT }
     ensures ok { IfOk result (IsRead walk.old walk.new (view value.now)) }
-    ensures fault { (f : ChartFault) → result ≡ Err (ChartRefusal.Fault f) → Stops walk.old.states (places (levels_at walk.old.path) walk.old.path (view value.now)) f }
+    ensures fault { (f : ChartFault) → result ≡ Err (ChartRefusal.Fault f)
+        → Stops walk.old.states (places (levels_at walk.old.path) walk.old.path (view value.now)) f }
 {
     let own = walk.own(alloc, value)?;
     Ok(Node {
@@ -222,10 +219,11 @@ fn read_kids(
     walk: &mut Walk,
     values: &[Value],
 ) -> Result<Sequence<Node>, ChartRefusal>
-    requires few { walk.old.states ≤ 4096 }
-    requires shallow { length walk.old.path < 40 }
+    requires few { walk.old.states ≤ STATE_LIMIT }
+    requires shallow { length walk.old.path < LEVEL_LIMIT }
     ensures ok { IfOk result (AreRead walk.old walk.new (items_view values.now)) }
-    ensures fault { (f : ChartFault) → result ≡ Err (ChartRefusal.Fault f) → Stops walk.old.states (kid_places (places (40 - length walk.old.path)) walk.old.path 0 (items_view values.now)) f }
+    ensures fault { (f : ChartFault) → result ≡ Err (ChartRefusal.Fault f) → Stops walk.old.states
+        (kid_places (places (LEVEL_LIMIT - length walk.old.path)) walk.old.path 0 (items_view values.now)) f }
 {
     let mut kids = Sequence::new(alloc);
     let mut place: u32 = 0;
@@ -234,10 +232,17 @@ fn read_kids(
         kids.push(read_element(alloc, walk, value)?)?;
         walk.path.pop();
         // A text of the greatest size has far fewer elements than 32 bits count.
-        let Some(next) = place.checked_add(1) else {
+        let Some(next) = next_place(place) else {
             return Err(ChartRefusal::NoMemory);
         };
         place = next;
     }
     Ok(kids)
+}
+
+/// The place behind this one, where 32 bits count it.
+fn next_place(place: u32) -> Option<u32>
+    ensures { result ≡ (if nat_lt (place + 1) (2 ^ 32) then Some (place + 1) else None) }
+{
+    place.checked_add(1)
 }

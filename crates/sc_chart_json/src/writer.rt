@@ -1,27 +1,31 @@
-ghost use Rattle.std.specs.Prelude.{◌≡◌, ◌≤◌, ℕ, List, length, map, codes, Ok, IfOk, OnOk};
+ghost use Rattle.std.specs.Prelude.{◌≡◌, ◌≤◌, ℕ, List, length, map, codes, None, Ok, IfOk, IfSome, OnOk};
 ghost use Rattle.std.specs.List.{join_with_byte};
+ghost use Rattle.std.specs.Str.{IsUtf8};
 ghost use Rattle.serde_json.specs.Data.{string, put};
 ghost use Rattle.serde_json.specs.View.{view, items_of, items_view, members_view};
 ghost use Rattle.sc_types.specs.ChartTexts.{chart_of};
+ghost use Rattle.sc_types.specs.declared.limits.TheConstants.{CHART_TEXT_LIMIT};
 ghost use Rattle.sc_types.specs.PrintedCharts.{member_text, put_members, put_kids, data_of, chart_text};
 ghost use Rattle.sc_expr.specs.Reading.{expr_of};
 
 use sc_expr::print_expr;
-use sc_types::{Bytes, Chart, Member, NoMemory, Node, Plain, Sequence};
+use sc_base::{Bytes, NoMemory, Plain};
+use sc_types::{Chart, Member, Node};
 use serde_json::{Map, Value};
 use std::alloc::Global;
 
 /// Prints a chart as compact JSON.
 ///
-/// A JSON text is UTF-8, so a chart made with other bytes is answered as where memory is wanting. None that was read
+/// A JSON text is UTF-8, so a chart made with other bytes is answered as where memory runs out. None that was read
 /// has such bytes.
 #[tactic(auto, using(crate::proofs::Printed::ReadBack::printed_charts))]
 pub fn print_chart(alloc: Global, chart: &Chart) -> Result<Bytes, NoMemory>
     ensures text { IfOk result (λ t. t ≡ chart_text chart.now) }
-    ensures read_back { (text : List ℕ) → chart_of expr_of text ≡ Ok chart.now → IfOk result (λ t. length t ≤ 1_048_576 → chart_of expr_of t ≡ Ok chart.now) }
+    ensures read_back { (text : List ℕ) → chart_of expr_of text ≡ Ok chart.now
+        → IfOk result (λ t. length t ≤ CHART_TEXT_LIMIT → chart_of expr_of t ≡ Ok chart.now) }
 {
     let text = node_value(alloc, &chart.root)?.to_vec(alloc)?;
-    Sequence::from_slice(alloc, &text)
+    Ok(Bytes::from_vec(text))
 }
 
 /// An element as a JSON object.
@@ -54,12 +58,16 @@ fn insert_members(
     object: &mut Map<String, Value>,
     members: &[(Bytes, Member)],
 ) -> Result<(), NoMemory>
-    ensures { OnOk result (members_view object.new.entries ≡ put_members members.now (members_view object.old.entries)) }
+    ensures { OnOk result (members_view object.new.entries
+        ≡ put_members members.now (members_view object.old.entries)) }
 {
     for member in members {
         let text = member_text(alloc, &member.1)?;
         let value = text_value(alloc, text.slice())?;
-        insert(alloc, object, as_text(member.0.slice())?, value)?;
+        let Some(name) = as_text(member.0.slice()) else {
+            return Err(NoMemory);
+        };
+        insert(alloc, object, name, value)?;
     }
     Ok(())
 }
@@ -70,7 +78,8 @@ fn insert_kids(
     object: &mut Map<String, Value>,
     kids: Vec<Value>,
 ) -> Result<(), NoMemory>
-    ensures { OnOk result (members_view object.new.entries ≡ put_kids (items_view kids.items) (members_view object.old.entries)) }
+    ensures { OnOk result (members_view object.new.entries
+        ≡ put_kids (items_view kids.items) (members_view object.old.entries)) }
 {
     if kids.is_empty() {
         return Ok(());
@@ -84,7 +93,8 @@ fn insert(
     name: &str,
     value: Value,
 ) -> Result<(), NoMemory>
-    ensures { OnOk result (members_view object.new.entries ≡ put name.now (view value) (members_view object.old.entries)) }
+    ensures { OnOk result (members_view object.new.entries
+        ≡ put name.now (view value) (members_view object.old.entries)) }
 {
     object.insert(String::from_str(alloc, name)?, value)?;
     Ok(())
@@ -93,13 +103,18 @@ fn insert(
 fn text_value(alloc: Global, text: &[u8]) -> Result<Value, NoMemory>
     ensures { IfOk result (λ v. view v ≡ string text.now) }
 {
-    Ok(Value::String(String::from_str(alloc, as_text(text)?)?))
+    let Some(text) = as_text(text) else {
+        return Err(NoMemory);
+    };
+    Ok(Value::String(String::from_str(alloc, text)?))
 }
 
-fn as_text(bytes: &[u8]) -> Result<&str, NoMemory>
-    ensures { IfOk result (λ text. text.now ≡ bytes.now) }
+/// The bytes as a text, where they are one.
+fn as_text(bytes: &[u8]) -> Option<&str>
+    ensures text { IfSome result (λ text. text.now ≡ bytes.now) }
+    ensures none { result ≡ None → ¬ IsUtf8 bytes.now }
 {
-    std::str::from_utf8(bytes).map_err(|_| NoMemory)
+    std::str::from_utf8(bytes).ok()
 }
 
 /// The text of an attribute.
@@ -124,5 +139,5 @@ fn join_words(alloc: Global, words: &[Bytes]) -> Result<Bytes, NoMemory>
         }
         text.extend_from_slice(words[i].slice())?;
     }
-    Sequence::from_slice(alloc, &text)
+    Ok(Bytes::from_vec(text))
 }

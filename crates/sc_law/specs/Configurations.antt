@@ -8,7 +8,8 @@ use Rattle.sc_types.specs.declared.chart.Chart.{Chart}
 use Rattle.sc_types.specs.declared.chart.Node.{Node}
 use Rattle.sc_types.specs.declared.chart.Tag.{Tag}
 use Rattle.sc_types.specs.declared.chart.Tag.TheVariants as tag
-use Rattle.sc_law.specs.Nodes.{tag_of, kids, is_tag, is_same, is_root, parent, has, words_at}
+use Rattle.sc_types.specs.Attributes.{has, words_at}
+use Rattle.sc_law.specs.Nodes.{tag_of, kids, is_tag, is_same, is_root, parent}
 use Rattle.sc_law.specs.Tree.{root, state_element, has_states, path_of, state_paths, state_count, numbers_where, ancestors, state_named}
 use Rattle.sc_law.specs.Kinds.{is_compound, is_parallel, is_history}
 use Rattle.sc_law.specs.Legality.{default_ids}

@@ -13,7 +13,8 @@ use Rattle.sc_types.specs.declared.event.Kind.TheVariants.{Internal}
 use Rattle.sc_types.specs.declared.expr.Expr.{Expr}
 use Rattle.sc_types.specs.declared.value.Value.{Value}
 use Rattle.sc_types.specs.declared.value.Value.TheVariants.{Int, Text}
-use Rattle.sc_law.specs.Nodes.{kids, Members, code_in, text_in}
+use Rattle.sc_types.specs.Attributes.{Members, code_in, text_in}
+use Rattle.sc_law.specs.Nodes.{kids}
 use Rattle.sc_law.specs.Runs.{Running, enqueue, failed, with_effect, with_env}
 use Rattle.sc_law.specs.Evaluation.{items_of, text_of, value}
 use Rattle.sc_law.specs.Data.{declare}

@@ -11,7 +11,8 @@ use Rattle.sc_types.specs.declared.chart.Node.{Node}
 use Rattle.sc_types.specs.declared.chart.Tag.{Tag}
 use Rattle.sc_types.specs.declared.chart.Tag.TheVariants as tag
 use Rattle.sc_types.specs.declared.value.Value.{Value}
-use Rattle.sc_law.specs.Nodes.{Path, kids, tag_of, element, elements, is_root, is_tag, is_text_at, parent, text_at, code_at}
+use Rattle.sc_types.specs.Attributes.{is_text_at, text_at, code_at}
+use Rattle.sc_law.specs.Nodes.{Path, kids, tag_of, element, elements, is_root, is_tag, parent}
 use Rattle.sc_law.specs.Runs.{Env, Running, failed, with_env}
 use Rattle.sc_law.specs.Evaluation.{Evaluated, is_pair_named, last_pair, value}
 

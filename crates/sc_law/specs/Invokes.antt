@@ -12,7 +12,8 @@ use Rattle.sc_types.specs.declared.effect.Effect.TheVariants.{Forward, Invoke}
 use Rattle.sc_types.specs.declared.event.Event.{Event}
 use Rattle.sc_types.specs.declared.session.Invoked.{Invoked}
 use Rattle.sc_types.specs.declared.value.Value.TheVariants.{Text}
-use Rattle.sc_law.specs.Nodes.{kids, tag_of, is_tag, is_text_at, text_at, words_at}
+use Rattle.sc_types.specs.Attributes.{is_text_at, text_at, words_at}
+use Rattle.sc_law.specs.Nodes.{kids, tag_of, is_tag}
 use Rattle.sc_law.specs.Tree.{kids_of}
 use Rattle.sc_law.specs.Runs.{RunState, Running, failed, state_id, with_effect, with_env, with_running}
 use Rattle.sc_law.specs.Data.{set, with_tag}

@@ -9,7 +9,8 @@ use Rattle.sc_types.specs.declared.chart.Tag.{Tag}
 use Rattle.sc_types.specs.declared.chart.Tag.TheVariants as tag
 use Rattle.sc_types.specs.declared.state_kind.StateKind.{StateKind}
 use Rattle.sc_types.specs.declared.state_kind.StateKind.TheVariants.{Atomic, Final, Compound, Parallel, Shallow, Deep}
-use Rattle.sc_law.specs.Nodes.{tag_of, is_text_at}
+use Rattle.sc_types.specs.Attributes.{is_text_at}
+use Rattle.sc_law.specs.Nodes.{tag_of}
 use Rattle.sc_law.specs.Tree.{has_states, state_element}
 
 -- a history is shallow where its `type` is absent

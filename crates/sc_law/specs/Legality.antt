@@ -17,7 +17,8 @@ use Rattle.sc_types.specs.declared.chart.Tag.{Tag}
 use Rattle.sc_types.specs.declared.chart.Tag.TheVariants as tag
 use Rattle.sc_types.specs.declared.expr.Expr.{Expr}
 use Rattle.sc_types.specs.declared.expr.Expr.TheVariants.{Active}
-use Rattle.sc_law.specs.Nodes.{Path, elements, element, is_root, parent, is_same, kids, leads_on, tag_of, is_tag, given, has, words_at, text_at, is_text_at, code_of}
+use Rattle.sc_types.specs.Attributes.{given, has, words_at, text_at, is_text_at, code_of}
+use Rattle.sc_law.specs.Nodes.{Path, elements, element, is_root, parent, is_same, kids, leads_on, tag_of, is_tag}
 use Rattle.sc_law.specs.Tree.{has_states, is_atomic_element}
 
 -- elements

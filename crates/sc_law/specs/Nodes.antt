@@ -4,15 +4,10 @@ use Rattle.std.specs.Prelude.{ℕ, ◌+◌, ◌-◌, ◌==◌, Bool, true, false
 use Rattle.std.specs.List.{list_any, starts_with}
 use Rattle.std.specs.Option.{option_map_or}
 use Rattle.std.specs.Str.{bytes_eq}
-use Rattle.sc_types.specs.Elements.{attribute_text}
-use Rattle.sc_types.specs.declared.attribute.Attribute.{Attribute}
 use Rattle.sc_types.specs.declared.chart.Chart.{Chart}
-use Rattle.sc_types.specs.declared.chart.Member.{Member}
-use Rattle.sc_types.specs.declared.chart.Member.TheVariants.{Plain, Items, Code}
 use Rattle.sc_types.specs.declared.chart.Node.{Node, Node', Row_of-Node, end_of-Node, more_of-Node, out-Node}
 use Rattle.sc_types.specs.declared.chart.Tag.{Tag}
 use Rattle.sc_types.specs.declared.chart.Tag.TheVariants as tag
-use Rattle.sc_types.specs.declared.expr.Expr.{Expr}
 
 -- paths
 
@@ -90,59 +85,3 @@ is_tag tag.Assign tag.Assign = true
 is_tag tag.Send tag.Send = true
 is_tag tag.Cancel tag.Cancel = true
 is_tag s t = false
-
--- attributes: of a list of attributes, and of an element
-
-abbrev pub Members : Type 0
-Members = List (List ℕ × Member)
-
-abbrev pub members_of : Node → Members
-members_of n = (out-Node n).members
-
-abbrev pub member_in : List ℕ → Members → Option Member
-member_in name ms =
-    option_map (λ (m : List ℕ × Member). m.1) (find (λ (m : List ℕ × Member). bytes_eq m.0 name) ms)
-
-abbrev pub member : List ℕ → Node → Option Member
-member name n = member_in name (members_of n)
-
-abbrev pub given : Attribute → Node → Option Member
-given a n = member (attribute_text a) n
-
-abbrev pub has : Attribute → Node → Bool
-has a n = is_some (given a n)
-
--- the text, the words or the expression of an attribute of that form
-
-abbrev pub plain_text : Member → Option (List ℕ)
-plain_text (Plain text) = Some text
-plain_text m = None
-
-abbrev pub words_of : Member → List (List ℕ)
-words_of (Items words) = words
-words_of m = []
-
-abbrev pub code_of : Member → Option Expr
-code_of (Code code) = Some code
-code_of m = None
-
-abbrev pub text_in : Attribute → Members → Option (List ℕ)
-text_in a ms = option_and_then plain_text (member_in (attribute_text a) ms)
-
-abbrev pub words_in : Attribute → Members → List (List ℕ)
-words_in a ms = option_map_or words_of (member_in (attribute_text a) ms) []
-
-abbrev pub code_in : Attribute → Members → Option Expr
-code_in a ms = option_and_then code_of (member_in (attribute_text a) ms)
-
-abbrev pub text_at : Attribute → Node → Option (List ℕ)
-text_at a n = text_in a (members_of n)
-
-abbrev pub words_at : Attribute → Node → List (List ℕ)
-words_at a n = words_in a (members_of n)
-
-abbrev pub code_at : Attribute → Node → Option Expr
-code_at a n = code_in a (members_of n)
-
-abbrev pub is_text_at : Attribute → List ℕ → Node → Bool
-is_text_at a text n = option_map_or (λ own. bytes_eq own text) (text_at a n) false

@@ -5,7 +5,7 @@ use Rattle.std.specs.Result.{result_ok}
 use Rattle.sc_types.specs.declared.attribute.Attribute.{Attribute}
 use Rattle.sc_types.specs.declared.expr.Expr.{Expr}
 use Rattle.sc_types.specs.declared.value.Value.{Value}
-use Rattle.sc_law.specs.Nodes.{Members, code_in}
+use Rattle.sc_types.specs.Attributes.{Members, code_in}
 use Rattle.sc_law.specs.Runs.{Running, failed, with_env}
 use Rattle.sc_law.specs.Evaluation.{Evaluated, truth_of, value}
 use Rattle.sc_law.specs.Data.{set}

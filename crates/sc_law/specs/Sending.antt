@@ -23,7 +23,8 @@ use Rattle.sc_types.specs.declared.session.Invoked.{Invoked}
 use Rattle.sc_types.specs.declared.value.Value.{Value, out-Value}
 use Rattle.sc_types.specs.declared.value.Value.TheOpen.{Value-F}
 use Rattle.sc_types.specs.declared.value.Value.TheVariants.{Text}
-use Rattle.sc_law.specs.Nodes.{kids, tag_of, is_tag, Members, code_in, text_in, words_in, members_of}
+use Rattle.sc_types.specs.Attributes.{Members, code_in, text_in, words_in, members_of}
+use Rattle.sc_law.specs.Nodes.{kids, tag_of, is_tag}
 use Rattle.sc_law.specs.Runs.{Env, Running, enqueue, failed, with_effect}
 use Rattle.sc_law.specs.Evaluation.{Evaluated, datum, text_of, value}
 use Rattle.sc_law.specs.Data.{set}

@@ -6,7 +6,8 @@ use Rattle.sc_types.specs.declared.attribute.Attribute.TheVariants as attribute
 use Rattle.sc_types.specs.declared.chart.Chart.{Chart}
 use Rattle.sc_types.specs.declared.chart.Node.{Node}
 use Rattle.sc_types.specs.declared.expr.Expr.{Expr}
-use Rattle.sc_law.specs.Nodes.{Path, element, elements, has, is_same, is_text_at, parent, words_at, code_at}
+use Rattle.sc_types.specs.Attributes.{has, is_text_at, words_at, code_at}
+use Rattle.sc_law.specs.Nodes.{Path, element, elements, is_same, parent}
 use Rattle.sc_law.specs.Tree.{numbers_where, path_of, state_paths, root}
 use Rattle.sc_law.specs.Legality.{is_transition}
 use Rattle.sc_law.specs.Configurations.{named}

@@ -9,7 +9,8 @@ use Rattle.sc_types.specs.declared.chart.Chart.{Chart}
 use Rattle.sc_types.specs.declared.chart.Node.{Node}
 use Rattle.sc_types.specs.declared.chart.Tag.{Tag}
 use Rattle.sc_types.specs.declared.chart.Tag.TheVariants.{State, Final}
-use Rattle.sc_law.specs.Nodes.{Path, elements, element, kids, node_at, leads_on, tag_of, text_at, is_text_at}
+use Rattle.sc_types.specs.Attributes.{text_at, is_text_at}
+use Rattle.sc_law.specs.Nodes.{Path, elements, element, kids, node_at, leads_on, tag_of}
 
 -- the paths of the states and histories, in document order
 abbrev pub state_paths : Chart → List Path

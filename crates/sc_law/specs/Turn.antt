@@ -17,7 +17,7 @@ use Rattle.sc_types.specs.declared.session.How.TheVariants as how
 use Rattle.sc_types.specs.declared.session.Phase.{Phase}
 use Rattle.sc_types.specs.declared.session.Phase.TheVariants as phase
 use Rattle.sc_types.specs.declared.session.SessionState.{SessionState}
-use Rattle.sc_law.specs.Nodes.{text_at}
+use Rattle.sc_types.specs.Attributes.{text_at}
 use Rattle.sc_law.specs.Tree.{root}
 use Rattle.sc_law.specs.Configurations.{parent_of}
 use Rattle.sc_law.specs.Entry.{first_entry}

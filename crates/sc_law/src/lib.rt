@@ -7,5 +7,5 @@ mod tree;
 
 pub use flat::{EntryTriple, RunState, Transition, TurnResult, turn};
 pub use tree::{
-    Path, Tree, element, element_paths, has_states, is_atomic_element, leads_on, member, node_at,
+    Path, Tree, element, element_paths, has_states, is_atomic_element, leads_on, node_at,
 };

@@ -2,12 +2,13 @@ ghost use Rattle.std.specs.Prelude.{◌≡◌, ◌++◌, if◌then◌else◌, If
 ghost use Rattle.std.specs.List.{list_any};
 ghost use Rattle.std.specs.Option.{option_copied, option_map_or};
 ghost use Rattle.sc_types.specs.declared.attribute.Attribute.TheVariants as attribute;
-ghost use Rattle.sc_law.specs.Nodes.{elements, elements_from, element, node_at, leads_on, tag_of, member, text_at, is_text_at};
+ghost use Rattle.sc_types.specs.Attributes.{text_at, is_text_at};
+ghost use Rattle.sc_law.specs.Nodes.{elements, elements_from, element, node_at, leads_on, tag_of};
 ghost use Rattle.sc_law.specs.Tree.{state_paths, path_of, node_of, kids_of, is_below, numbers_where, ancestors, has_states, is_atomic_element, id_of, state_named};
 ghost use Rattle.sc_types.specs.declared.state_kind.StateKind.TheVariants as kind;
 ghost use Rattle.sc_law.specs.Kinds.{kind_at, kind_of, is_atomic};
 
-use sc_types::{Attribute, Chart, Member, NoMemory, Node, Plain, Sequence, StateKind, Tag};
+use sc_types::{Attribute, Chart, NoMemory, Node, Plain, Sequence, StateKind, Tag};
 use std::alloc::Global;
 use std::marker::Model;
 
@@ -123,13 +124,13 @@ impl Tree {
         ensures { option_copied result ≡ option_and_then id_of (node_of self.now state) }
     {
         let node = node_at(&self.chart().root, self.path_of(state))?;
-        text_at(Attribute::Id, node)
+        node.text(Attribute::Id)
     }
 
     fn has_id(&self, id: &[u8], path: &[usize]) -> bool
         ensures { result ≡ is_text_at attribute.Id id.now (element self.now path.now) }
     {
-        is_text_at(Attribute::Id, id, element(self.chart(), path))
+        element(self.chart(), path).is_text(Attribute::Id, id)
     }
 }
 
@@ -182,7 +183,7 @@ fn state_kind(node: &Node) -> StateKind
 fn history_kind(node: &Node) -> StateKind
     ensures { result ≡ (if is_text_at attribute.Type (codes "deep") node.now then kind.Deep else kind.Shallow) }
 {
-    if is_text_at(Attribute::Type, b"deep", node) {
+    if node.is_text(Attribute::Type, b"deep") {
         StateKind::Deep
     } else {
         StateKind::Shallow
@@ -274,32 +275,5 @@ pub fn element<'a>(chart: &'a Chart, path: &[usize]) -> &'a Node
     match node_at(&chart.root, path) {
         Some(node) => node,
         None => &chart.root,
-    }
-}
-
-/// The attribute of a name.
-pub fn member<'a>(name: &[u8], node: &'a Node) -> Option<&'a Member>
-    ensures { option_copied result ≡ member name.now node.now }
-{
-    let found = node.members.slice().iter().find(|m| m.0.slice() == name)?;
-    Some(&found.1)
-}
-
-/// The text of an attribute, where it has one.
-fn text_at(attribute: Attribute, node: &Node) -> Option<&[u8]>
-    ensures { option_copied result ≡ text_at attribute node.now }
-{
-    match member(attribute.text().as_bytes(), node)? {
-        Member::Plain(text) => Some(text.slice()),
-        _ => None,
-    }
-}
-
-fn is_text_at(attribute: Attribute, text: &[u8], node: &Node) -> bool
-    ensures { result ≡ is_text_at attribute text.now node.now }
-{
-    match text_at(attribute, node) {
-        Some(own) => own == text,
-        None => false,
     }
 }

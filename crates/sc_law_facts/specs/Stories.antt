@@ -16,7 +16,7 @@ use Rattle.sc_types.specs.declared.expr.Expr.{Expr}
 use Rattle.sc_types.specs.declared.session.Cue.{Cue}
 use Rattle.sc_types.specs.declared.session.SessionState.{SessionState}
 use Rattle.sc_types.specs.declared.value.Value.{Value}
-use Rattle.sc_law.specs.Nodes.{Members}
+use Rattle.sc_types.specs.Attributes.{Members}
 use Rattle.sc_law.specs.Runs.{Env}
 use Rattle.sc_law.specs.Evaluation.{value}
 use Rattle.sc_law.specs.Turn.{TurnResult, turn}

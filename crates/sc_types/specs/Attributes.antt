@@ -1,5 +1,5 @@
--- The attributes of an element of a chart. Each has one of three forms: a text as given, words, or an expression. This
--- host's own rule, for the attributes of SCXML 3.2 to 3.14 and of chapters 4 to 6.
+-- The attributes of an element of a chart. Each has one of three forms: a text as it was given, words, or an expression.
+-- SCXML 3.2 to 3.14 and chapters 4 to 6 say which element has which; that they are kept so is this host's own rule.
 use Rattle.std.specs.Prelude.{ℕ, Bool, false, is_some, Option, None, Some, option_map, option_and_then, List, [], find}
 use Rattle.std.specs.Option.{option_map_or}
 use Rattle.std.specs.Str.{bytes_eq}
@@ -10,41 +10,58 @@ use Rattle.sc_types.specs.declared.chart.Member.TheVariants.{Plain, Items, Code}
 use Rattle.sc_types.specs.declared.chart.Node.{Node, out-Node}
 use Rattle.sc_types.specs.declared.expr.Expr.{Expr}
 
--- the text, the words or the expression of an attribute of that form
+-- attributes: of a list of attributes, and of an element
 
-abbrev pub text_of : Member → Option (List ℕ)
-text_of (Plain text) = Some text
-text_of member = None
-
-abbrev pub words_of : Member → List (List ℕ)
-words_of (Items words) = words
-words_of member = []
-
-abbrev pub expr_of : Member → Option Expr
-expr_of (Code code) = Some code
-expr_of member = None
-
--- the attributes of an element, by their names
 abbrev pub Members : Type 0
 Members = List (List ℕ × Member)
 
-abbrev pub given_among : Attribute → Members → Option Member
-given_among a members = option_map (λ (m : List ℕ × Member). m.1) (find (λ (m : List ℕ × Member). bytes_eq m.0 (attribute_text a)) members)
+abbrev pub members_of : Node → Members
+members_of n = (out-Node n).members
+
+abbrev pub member_in : List ℕ → Members → Option Member
+member_in name ms =
+    option_map (λ (m : List ℕ × Member). m.1) (find (λ (m : List ℕ × Member). bytes_eq m.0 name) ms)
+
+abbrev pub member : List ℕ → Node → Option Member
+member name n = member_in name (members_of n)
 
 abbrev pub given : Attribute → Node → Option Member
-given a n = given_among a (out-Node n).members
+given a n = member (attribute_text a) n
 
 abbrev pub has : Attribute → Node → Bool
 has a n = is_some (given a n)
 
+-- the text, the words or the expression of an attribute of that form
+
+abbrev pub plain_text : Member → Option (List ℕ)
+plain_text (Plain text) = Some text
+plain_text m = None
+
+abbrev pub words_of : Member → List (List ℕ)
+words_of (Items words) = words
+words_of m = []
+
+abbrev pub code_of : Member → Option Expr
+code_of (Code code) = Some code
+code_of m = None
+
+abbrev pub text_in : Attribute → Members → Option (List ℕ)
+text_in a ms = option_and_then plain_text (member_in (attribute_text a) ms)
+
+abbrev pub words_in : Attribute → Members → List (List ℕ)
+words_in a ms = option_map_or words_of (member_in (attribute_text a) ms) []
+
+abbrev pub code_in : Attribute → Members → Option Expr
+code_in a ms = option_and_then code_of (member_in (attribute_text a) ms)
+
 abbrev pub text_at : Attribute → Node → Option (List ℕ)
-text_at a n = option_and_then text_of (given a n)
+text_at a n = text_in a (members_of n)
 
 abbrev pub words_at : Attribute → Node → List (List ℕ)
-words_at a n = option_map_or words_of (given a n) []
+words_at a n = words_in a (members_of n)
 
-abbrev pub expr_at : Attribute → Node → Option Expr
-expr_at a n = option_and_then expr_of (given a n)
+abbrev pub code_at : Attribute → Node → Option Expr
+code_at a n = code_in a (members_of n)
 
 abbrev pub is_text_at : Attribute → List ℕ → Node → Bool
 is_text_at a text n = option_map_or (λ own. bytes_eq own text) (text_at a n) false

@@ -1,6 +1,6 @@
 ghost use Rattle.std.specs.Prelude.{◌≡◌};
 ghost use Rattle.std.specs.Option.{option_copied};
-ghost use Rattle.sc_types.specs.Attributes.{text_of, words_of, expr_of, given, has, text_at, words_at, expr_at, is_text_at};
+ghost use Rattle.sc_types.specs.Attributes.{plain_text, words_of, code_of, given, has, text_at, words_at, code_at, is_text_at};
 
 use crate::attribute::Attribute;
 use crate::chart::{Member, Node};
@@ -10,7 +10,7 @@ use sc_base::Bytes;
 impl Member {
     /// The text of an attribute that is kept as it was given.
     pub fn text(&self) -> Option<&[u8]>
-        ensures { option_copied result ≡ text_of self.now }
+        ensures { option_copied result ≡ plain_text self.now }
     {
         match self {
             Member::Plain(text) => Some(text.slice()),
@@ -30,7 +30,7 @@ impl Member {
 
     /// The expression of an attribute that is one.
     pub fn expr(&self) -> Option<&Expr>
-        ensures { option_copied result ≡ expr_of self.now }
+        ensures { option_copied result ≡ code_of self.now }
     {
         match self {
             Member::Code(code) => Some(code),
@@ -75,7 +75,7 @@ impl Node {
 
     /// The expression of an attribute, where the element has it.
     pub fn expr(&self, attribute: Attribute) -> Option<&Expr>
-        ensures { option_copied result ≡ expr_at attribute self.now }
+        ensures { option_copied result ≡ code_at attribute self.now }
     {
         self.attribute(attribute)?.expr()
     }

@@ -14,7 +14,8 @@ use Rattle.sc_types.specs.declared.attribute.Attribute.TheVariants as attribute
 use Rattle.sc_types.specs.declared.chart.Chart.{Chart}
 use Rattle.sc_types.specs.declared.chart.Node.{Node}
 use Rattle.sc_types.specs.declared.chart.Tag.{Tag}
-use Rattle.sc_law.specs.Nodes.{Path, tag_of, element, is_text_at}
+use Rattle.sc_types.specs.Attributes.{is_text_at}
+use Rattle.sc_law.specs.Nodes.{Path, tag_of, element}
 use Rattle.sc_valid.specs.Firsts.{first_of, IsPut, IsAdded, AreFirsts}
 use Rattle.sc_valid.specs.declared.firsts.Firsts.{Firsts}
 

@@ -10,7 +10,8 @@ use Rattle.sc_types.specs.declared.chart.Chart.{Chart}
 use Rattle.sc_types.specs.declared.chart.Tag.{Tag}
 use Rattle.sc_law.specs.Nodes.{Path, tag_of}
 use Rattle.sc_types.specs.declared.chart.Node.{Node}
-use Rattle.sc_law.specs.Nodes.{element, is_text_at, is_same}
+use Rattle.sc_types.specs.Attributes.{is_text_at}
+use Rattle.sc_law.specs.Nodes.{element, is_same}
 use Rattle.sc_law.specs.Legality.{first_with}
 use Rattle.sc_valid.specs.declared.firsts.Firsts.{Firsts}
 
@@ -23,16 +24,20 @@ HasFirsts f test c = (id : List ℕ) → first_of f id ≡ first_with test attri
 
 -- the first element of an id, where there is one, is another than this one
 abbrev pub is_later : Firsts → Option (List ℕ) → Path → Bool
-is_later f id path = option_map_or (λ id. option_map_or (λ first. not (is_same first path)) (first_of f id) false) id false
+is_later f id path =
+    option_map_or (λ id. option_map_or (λ first. not (is_same first path)) (first_of f id) false) id false
 
 -- the table has the first element of each id, among those of these paths whose tag passes the test
 pub record AreFirsts (f : Firsts) (test : Tag → Bool) (c : Chart) (paths : List Path) : Type 0 where
-  pub finds : (id : List ℕ) → first_of f id ≡ find (λ path. test (tag_of (element c path)) && is_text_at attribute.Id id (element c path)) paths
+  pub finds : (id : List ℕ) → first_of f id
+      ≡ find (λ path. test (tag_of (element c path)) && is_text_at attribute.Id id (element c path)) paths
 
 -- an id that had no path has this one
 pub record IsPut (old : Firsts) (id : List ℕ) (path : Path) (new : Firsts) : Type 0 where
-  pub finds : (other : List ℕ) → first_of new other ≡ option_or (first_of old other) (if bytes_eq id other then Some path else None)
+  pub finds : (other : List ℕ) → first_of new other
+      ≡ option_or (first_of old other) (if bytes_eq id other then Some path else None)
 
 -- the same with an element's id, where the element is of the table's kind
 pub record IsAdded (old : Firsts) (is_kind : Bool) (n : Node) (path : Path) (new : Firsts) : Type 0 where
-  pub finds : (id : List ℕ) → first_of new id ≡ option_or (first_of old id) (if is_kind && is_text_at attribute.Id id n then Some path else None)
+  pub finds : (id : List ℕ) → first_of new id
+      ≡ option_or (first_of old id) (if is_kind && is_text_at attribute.Id id n then Some path else None)

@@ -5,4 +5,6 @@ use Rattle.sc_law.specs.Nodes.{Path}
 use Rattle.sc_law.specs.Legality.{tests}
 
 abbrev pub later_number : Chart → Path → Option ℕ
-later_number c path = option_map (λ (t : ℕ × (Chart → Path → Bool)). t.0) (find (λ (t : ℕ × (Chart → Path → Bool)). t.1 c path) (drop 5 tests))
+later_number c path =
+    option_map (λ (t : ℕ × (Chart → Path → Bool)). t.0)
+    (find (λ (t : ℕ × (Chart → Path → Bool)). t.1 c path) (drop 5 tests))

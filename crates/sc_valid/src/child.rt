@@ -36,7 +36,8 @@ impl<'c> ChartIndex<'c> {
     }
 
     fn is_beside_content(&self, path: &[usize], above: Tag, tag: Tag) -> bool
-        ensures { result ≡ (is_tag tag_name.DoneData above && is_tag tag_name.Param tag && has_kid tag_name.Content (element self.now (parent path.now))) }
+        ensures { result ≡ (is_tag tag_name.DoneData above && is_tag tag_name.Param tag
+            && has_kid tag_name.Content (element self.now (parent path.now))) }
     {
         is_tag(Tag::DoneData, above)
             && is_tag(Tag::Param, tag)
@@ -44,7 +45,8 @@ impl<'c> ChartIndex<'c> {
     }
 
     fn sends_in_finalize(&self, path: &[usize], tag: Tag) -> bool
-        ensures { result ≡ (is_among (tag_name.Raise ∷ tag_name.Send ∷ []) tag && is_in_finalize self.now (length path.now) path.now) }
+        ensures { result ≡ (is_among (tag_name.Raise ∷ tag_name.Send ∷ []) tag
+            && is_in_finalize self.now (length path.now) path.now) }
     {
         matches!(tag, Tag::Raise | Tag::Send) && self.is_in_finalize(path)
     }
@@ -64,7 +66,8 @@ impl<'c> ChartIndex<'c> {
     }
 
     fn is_behind_else(&self, path: &[usize], above: Tag, tag: Tag) -> bool
-        ensures { result ≡ (is_tag tag_name.If above && is_among (tag_name.ElseIf ∷ tag_name.Else ∷ []) tag && has_earlier tag_name.Else self.now path.now) }
+        ensures { result ≡ (is_tag tag_name.If above && is_among (tag_name.ElseIf ∷ tag_name.Else ∷ []) tag
+            && has_earlier tag_name.Else self.now path.now) }
     {
         is_tag(Tag::If, above)
             && matches!(tag, Tag::ElseIf | Tag::Else)

@@ -3,10 +3,9 @@ ghost use Rattle.std.specs.List.{list_any};
 ghost use Rattle.std.specs.Option.{option_map_or};
 ghost use Rattle.sc_types.specs.declared.attribute.Attribute.TheVariants as attribute;
 ghost use Rattle.sc_types.specs.declared.chart.Tag.TheVariants as tag_name;
-ghost use Rattle.sc_law.specs.Nodes.{given, has, text_at};
+ghost use Rattle.sc_types.specs.Attributes.{given, has, text_at};
 ghost use Rattle.sc_law.specs.Legality.{is_among, is_system_name, is_test, needs_data, is_null_model, is_bad_datum, is_bad_data};
 
-use crate::attributes::{given, has, is_text_at, text_at};
 use crate::index::ChartIndex;
 use crate::tags::is_tag;
 use sc_types::{Attribute, Expr, Member, Node, Tag};
@@ -21,7 +20,7 @@ impl<'c> ChartIndex<'c> {
     fn is_null_model(&self) -> bool
         ensures { result ≡ is_null_model self.now }
     {
-        is_text_at(Attribute::DataModel, b"null", self.root())
+        self.root().is_text(Attribute::DataModel, b"null")
     }
 
     fn is_bad_datum(&self, path: &[usize]) -> bool
@@ -36,7 +35,7 @@ impl<'c> ChartIndex<'c> {
 fn has_system_id(node: &Node) -> bool
     ensures { result ≡ option_map_or is_system_name (text_at attribute.Id node.now) false }
 {
-    match text_at(Attribute::Id, node) {
+    match node.text(Attribute::Id) {
         Some([first, ..]) => *first == b'_',
         _ => false,
     }
@@ -50,7 +49,8 @@ fn needs_data(node: &Node) -> bool
 }
 
 fn is_of_data(tag: Tag) -> bool
-    ensures { result ≡ is_among (tag_name.DataItem ∷ tag_name.Assign ∷ tag_name.ForEach ∷ tag_name.Param ∷ tag_name.Content ∷ []) tag }
+    ensures { result ≡ is_among (tag_name.DataItem ∷ tag_name.Assign ∷ tag_name.ForEach ∷ tag_name.Param
+        ∷ tag_name.Content ∷ []) tag }
 {
     matches!(
         tag,
@@ -59,20 +59,21 @@ fn is_of_data(tag: Tag) -> bool
 }
 
 fn has_data_attribute(node: &Node) -> bool
-    ensures { result ≡ list_any (λ a. has a node.now) (attribute.Expr ∷ attribute.EventExpr ∷ attribute.DelayExpr ∷ attribute.SendIdExpr ∷ attribute.NameList ∷ attribute.IdLocation ∷ []) }
+    ensures { result ≡ list_any (λ a. has a node.now) (attribute.Expr ∷ attribute.EventExpr
+        ∷ attribute.DelayExpr ∷ attribute.SendIdExpr ∷ attribute.NameList ∷ attribute.IdLocation ∷ []) }
 {
-    has(Attribute::Expr, node)
-        || has(Attribute::EventExpr, node)
-        || has(Attribute::DelayExpr, node)
-        || has(Attribute::SendIdExpr, node)
-        || has(Attribute::NameList, node)
-        || has(Attribute::IdLocation, node)
+    node.has(Attribute::Expr)
+        || node.has(Attribute::EventExpr)
+        || node.has(Attribute::DelayExpr)
+        || node.has(Attribute::SendIdExpr)
+        || node.has(Attribute::NameList)
+        || node.has(Attribute::IdLocation)
 }
 
 fn has_other_condition(node: &Node) -> bool
     ensures { result ≡ option_map_or (λ m. not (is_test m)) (given attribute.Cond node.now) false }
 {
-    match given(Attribute::Cond, node) {
+    match node.attribute(Attribute::Cond) {
         Some(Member::Code(Expr::Active(_))) => false,
         Some(_) => true,
         None => false,

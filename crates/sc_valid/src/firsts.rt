@@ -2,7 +2,6 @@ ghost use Rattle.std.specs.Prelude.{◌≡◌, None, ℕ, List, OnOk};
 ghost use Rattle.std.specs.Option.{option_copied};
 ghost use Rattle.sc_valid.specs.Firsts.{first_of, IsPut, IsAdded};
 
-use crate::attributes::text_at;
 use sc_law::Path;
 use sc_types::{Attribute, NoMemory, Node, Plain};
 use std::alloc::Global;
@@ -42,7 +41,7 @@ impl Firsts {
         if !is_kind {
             return Ok(());
         }
-        match text_at(Attribute::Id, node) {
+        match node.text(Attribute::Id) {
             Some(id) => self.put(alloc, id, path),
             None => Ok(()),
         }

@@ -7,7 +7,6 @@ ghost use Rattle.sc_law.specs.Nodes.{tag_of, elements, element, parent, is_tag};
 ghost use Rattle.sc_law.specs.Legality.{own_place, earlier, path_named, is_repeated, is_double_id};
 ghost use Rattle.sc_valid.specs.Firsts.{first_of, HasFirsts, is_later};
 
-use crate::attributes::text_at;
 use crate::firsts::Firsts;
 use sc_law::{Path, element};
 use sc_types::{Attribute, Chart, NoMemory, Node, Plain, Tag};
@@ -38,7 +37,9 @@ impl<'c> Model for ChartIndex<'c> {
 
     ghost view = { λ i. i.chart.now };
 
-    ghost invariant = { λ i. HasFirsts i.states is_numbered i.chart.now × HasFirsts i.invokes (is_tag tag_name.Invoke) i.chart.now × HasFirsts i.data_items (is_tag tag_name.DataItem) i.chart.now };
+    ghost invariant = { λ i. HasFirsts i.states is_numbered i.chart.now
+        × HasFirsts i.invokes (is_tag tag_name.Invoke) i.chart.now
+        × HasFirsts i.data_items (is_tag tag_name.DataItem) i.chart.now };
 }
 
 impl<'c> ChartIndex<'c> {
@@ -117,7 +118,7 @@ impl<'c> ChartIndex<'c> {
         ensures { result ≡ is_double_id self.now path.now }
     {
         let node = self.element(path);
-        node.tag.is_numbered() && is_later(&self.states, text_at(Attribute::Id, node), path)
+        node.tag.is_numbered() && is_later(&self.states, node.text(Attribute::Id), path)
     }
 
     /// Whether an earlier invoke has the id of this one.
@@ -125,7 +126,7 @@ impl<'c> ChartIndex<'c> {
         ensures { result ≡ is_repeated (is_tag tag_name.Invoke) attribute.Id self.now path.now }
     {
         let node = self.element(path);
-        is_invoke(node.tag) && is_later(&self.invokes, text_at(Attribute::Id, node), path)
+        is_invoke(node.tag) && is_later(&self.invokes, node.text(Attribute::Id), path)
     }
 
     /// Whether an earlier datum has the id of this one.
@@ -133,7 +134,7 @@ impl<'c> ChartIndex<'c> {
         ensures { result ≡ is_repeated (is_tag tag_name.DataItem) attribute.Id self.now path.now }
     {
         let node = self.element(path);
-        is_data_item(node.tag) && is_later(&self.data_items, text_at(Attribute::Id, node), path)
+        is_data_item(node.tag) && is_later(&self.data_items, node.text(Attribute::Id), path)
     }
 }
 

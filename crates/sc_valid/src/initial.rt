@@ -7,7 +7,6 @@ ghost use Rattle.sc_law.specs.Tree.{is_atomic_element};
 ghost use Rattle.sc_law.specs.Legality.{is_default, only_default, default_ids, is_bad_member, are_bad_defaults, is_bad_element, is_bad_initial, is_bad_recorded, are_bad_recorded, is_bad_history, is_state_or_parallel, are_below, targets};
 ghost use Rattle.sc_valid.specs.Only.{only};
 
-use crate::attributes::{has, is_text_at, words_at};
 use crate::index::{ChartIndex, parent};
 use crate::tags::{has_kid, is_state_or_parallel};
 use crate::target::are_below;
@@ -23,7 +22,7 @@ impl<'c> ChartIndex<'c> {
         if path.is_empty() && !has_states(node) {
             return Ok(true);
         }
-        if has(Attribute::Initial, node) && self.is_bad_member(alloc, path, node)? {
+        if node.has(Attribute::Initial) && self.is_bad_member(alloc, path, node)? {
             return Ok(true);
         }
         match node.tag {
@@ -36,7 +35,7 @@ impl<'c> ChartIndex<'c> {
     fn is_bad_member(&self, alloc: Global, path: &[usize], node: &Node) -> Result<bool, NoMemory>
         ensures { IfOk result (λ b. b ≡ is_bad_member self.now path.now node.now (tag_of node.now)) }
     {
-        let targets = self.targets(alloc, words_at(Attribute::Initial, node))?;
+        let targets = self.targets(alloc, node.words(Attribute::Initial))?;
         Ok(match node.tag {
             Tag::Scxml => !self.all_orthogonal(targets.slice()),
             Tag::State => {
@@ -80,7 +79,9 @@ impl<'c> ChartIndex<'c> {
     }
 
     fn is_bad_record(&self, alloc: Global, path: &[usize], node: &Node) -> Result<bool, NoMemory>
-        ensures { IfOk result (λ b. b ≡ option_map_or (λ ids. are_bad_recorded self.now path.now (targets self.now ids)) (default_ids node.now) true) }
+        ensures { IfOk result (λ b. b
+            ≡ option_map_or (λ ids. are_bad_recorded self.now path.now (targets self.now ids))
+            (default_ids node.now) true) }
     {
         match default_ids(node) {
             Some(ids) => {
@@ -112,7 +113,7 @@ impl<'c> ChartIndex<'c> {
         self.is_history(target)
             || path.is_empty()
             || !leads_on(parent(path), target)
-            || !is_text_at(Attribute::Type, b"deep", self.element(path))
+            || !self.element(path).is_text(Attribute::Type, b"deep")
                 && parent(target) != parent(path)
     }
 
@@ -124,7 +125,8 @@ impl<'c> ChartIndex<'c> {
 }
 
 fn is_bad_below(node: &Node, path: &[usize], targets: &[Path]) -> bool
-    ensures { result ≡ (is_atomic_element node.now (tag_of node.now) || is_state_or_parallel (tag_of node.now) && not (are_below path.now targets.now)) }
+    ensures { result ≡ (is_atomic_element node.now (tag_of node.now)
+        || is_state_or_parallel (tag_of node.now) && not (are_below path.now targets.now)) }
 {
     is_atomic_element(node) || is_state_or_parallel(node.tag) && !are_below(path, targets)
 }
@@ -135,7 +137,7 @@ fn default_ids(node: &Node) -> Option<&[Bytes]>
 {
     let transition = only_transition(node.kids.slice())?;
     if is_default(transition) {
-        Some(words_at(Attribute::Target, transition))
+        Some(transition.words(Attribute::Target))
     } else {
         None
     }
@@ -166,7 +168,7 @@ fn is_transition_tag(tag: Tag) -> bool
 fn is_default(transition: &Node) -> bool
     ensures { result ≡ is_default transition.now }
 {
-    !has(Attribute::Event, transition)
-        && !has(Attribute::Cond, transition)
-        && has(Attribute::Target, transition)
+    !transition.has(Attribute::Event)
+        && !transition.has(Attribute::Cond)
+        && transition.has(Attribute::Target)
 }

@@ -3,10 +3,9 @@ ghost use Rattle.std.specs.Char.{digit_value};
 ghost use Rattle.std.specs.Str.Parse.{digits_value};
 ghost use Rattle.sc_types.specs.declared.attribute.Attribute.TheVariants as attribute;
 ghost use Rattle.sc_types.specs.declared.chart.Tag.TheVariants as tag_name;
-ghost use Rattle.sc_law.specs.Nodes.{has, is_text_at};
+ghost use Rattle.sc_types.specs.Attributes.{has, is_text_at};
 ghost use Rattle.sc_law.specs.Legality.{has_kid, is_bad_limit, is_bad_send_node, is_bad_send, is_bad_invoke, is_empty_finalize};
 
-use crate::attributes::{has, is_text_at, text_at};
 use crate::index::ChartIndex;
 use crate::tags::{has_kid, is_tag};
 use sc_types::{Attribute, Node, Tag};
@@ -18,7 +17,7 @@ impl<'c> ChartIndex<'c> {
         if !path.is_empty() {
             return false;
         }
-        match text_at(Attribute::Limit, self.element(path)) {
+        match self.element(path).text(Attribute::Limit) {
             Some(text) => !is_within_limits(text),
             None => false,
         }
@@ -36,7 +35,7 @@ impl<'c> ChartIndex<'c> {
     {
         let node = self.element(path);
         is_tag(Tag::Invoke, node.tag)
-            && (has(Attribute::Id, node) && has(Attribute::IdLocation, node)
+            && (node.has(Attribute::Id) && node.has(Attribute::IdLocation)
                 || self.is_double_invoke(path))
     }
 
@@ -73,23 +72,25 @@ fn digit(byte: u8) -> u32
 fn is_bad_send_node(node: &Node) -> bool
     ensures { result ≡ is_bad_send_node node.now }
 {
-    has(Attribute::Event, node) == has(Attribute::EventExpr, node)
-        || has(Attribute::Id, node) && has(Attribute::IdLocation, node)
-        || has(Attribute::Delay, node) && has(Attribute::DelayExpr, node)
+    node.has(Attribute::Event) == node.has(Attribute::EventExpr)
+        || node.has(Attribute::Id) && node.has(Attribute::IdLocation)
+        || node.has(Attribute::Delay) && node.has(Attribute::DelayExpr)
         || has_data_twice(node)
         || is_delayed_within(node)
 }
 
 fn has_data_twice(node: &Node) -> bool
-    ensures { result ≡ (has_kid tag_name.Content node.now && (has attribute.NameList node.now || has_kid tag_name.Param node.now)) }
+    ensures { result ≡ (has_kid tag_name.Content node.now
+        && (has attribute.NameList node.now || has_kid tag_name.Param node.now)) }
 {
-    has_kid(Tag::Content, node) && (has(Attribute::NameList, node) || has_kid(Tag::Param, node))
+    has_kid(Tag::Content, node) && (node.has(Attribute::NameList) || has_kid(Tag::Param, node))
 }
 
 /// Whether a delayed event goes to the session's own internal queue.
 fn is_delayed_within(node: &Node) -> bool
-    ensures { result ≡ ((has attribute.Delay node.now || has attribute.DelayExpr node.now) && is_text_at attribute.Target (codes "#_internal") node.now) }
+    ensures { result ≡ ((has attribute.Delay node.now || has attribute.DelayExpr node.now)
+        && is_text_at attribute.Target (codes "#_internal") node.now) }
 {
-    (has(Attribute::Delay, node) || has(Attribute::DelayExpr, node))
-        && is_text_at(Attribute::Target, b"#_internal", node)
+    (node.has(Attribute::Delay) || node.has(Attribute::DelayExpr))
+        && node.is_text(Attribute::Target, b"#_internal")
 }

@@ -1,7 +1,6 @@
 //! Whether a chart is legal, and else its first fault.
 #![tactic(auto)]
 
-mod attributes;
 mod child;
 mod data;
 mod firsts;

@@ -5,7 +5,6 @@ ghost use Rattle.sc_law.specs.Nodes.{tag_of, is_tag, element};
 ghost use Rattle.sc_law.specs.Legality.{path_named, target_ids, has_unknown_target, targets, common, is_history_of, are_orthogonal, all_orthogonal, are_below, is_transition, has_bad_targets, is_empty_transition};
 ghost use Rattle.sc_types.specs.declared.chart.Tag.TheVariants as tag_name;
 
-use crate::attributes::{has, words_at};
 use crate::index::{ChartIndex, parent};
 use crate::tags::is_state_or_parallel;
 use sc_law::{Path, leads_on};
@@ -106,7 +105,7 @@ impl<'c> ChartIndex<'c> {
         if !self.is_transition(path) {
             return Ok(false);
         }
-        let targets = self.targets(alloc, words_at(Attribute::Target, self.element(path)))?;
+        let targets = self.targets(alloc, self.element(path).words(Attribute::Target))?;
         Ok(!self.all_orthogonal(targets.slice()))
     }
 
@@ -115,9 +114,9 @@ impl<'c> ChartIndex<'c> {
     {
         let node = self.element(path);
         self.is_transition(path)
-            && !has(Attribute::Event, node)
-            && !has(Attribute::Cond, node)
-            && !has(Attribute::Target, node)
+            && !node.has(Attribute::Event)
+            && !node.has(Attribute::Cond)
+            && !node.has(Attribute::Target)
     }
 }
 
@@ -132,8 +131,8 @@ fn target_ids(node: &Node) -> &[Bytes]
     ensures { result.now ≡ target_ids node.now (tag_of node.now) }
 {
     match node.tag {
-        Tag::Transition => words_at(Attribute::Target, node),
-        Tag::Scxml | Tag::State => words_at(Attribute::Initial, node),
+        Tag::Transition => node.words(Attribute::Target),
+        Tag::Scxml | Tag::State => node.words(Attribute::Initial),
         _ => &[],
     }
 }

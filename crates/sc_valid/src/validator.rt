@@ -1,4 +1,4 @@
-ghost use Rattle.std.specs.Prelude.{◌≡◌, [], Option, Some, None, Ok, Err, IfOk};
+ghost use Rattle.std.specs.Prelude.{◌≡◌, ◌^◌, [], nat_lt, if◌then◌else◌, Option, Some, None, Ok, Err, IfOk};
 ghost use Rattle.sc_types.specs.ChartTexts.{fault};
 ghost use Rattle.sc_types.specs.declared.chart.ChartFault.{ChartFault};
 ghost use Rattle.sc_law.specs.Legality.{first_fault, legal_fault, number_at};
@@ -128,10 +128,16 @@ fn short_path(alloc: Global, path: &[usize]) -> Result<Sequence<u32>, NoMemory>
 {
     let mut short = Sequence::new(alloc);
     for place in path {
-        match u32::try_from(*place) {
-            Ok(place) => short.push(place)?,
-            Err(_) => return Err(NoMemory),
+        match short_place(*place) {
+            Some(place) => short.push(place)?,
+            None => return Err(NoMemory),
         }
     }
     Ok(short)
+}
+
+fn short_place(place: usize) -> Option<u32>
+    ensures { result ≡ (if nat_lt place (2 ^ 32) then Some place else None) }
+{
+    u32::try_from(place).ok()
 }

@@ -38,6 +38,7 @@ all_no_float : (ns : List ((n : Node) × HasNoFloat n)) → items_have_float (it
 all_no_float [] = refl
 all_no_float (n ∷ ns) = or_from (has_float (data_of n.0)) _ n.1 (all_no_float ns)
 
+-- what is printed of an element has no float, so that its text is exact
 pub no_float : (n : Node) → has_float (data_of n) ≡ false
 no_float = ind-Node HasNoFloat (λ x y is.
     let inner = subst (λ z. items_have_float (items_of (map data_of z.kids)) ≡ false) is (all_no_float y.kids) in
@@ -69,6 +70,7 @@ node_shallow tag members kids =
     subst (λ d. depth d ≤ 2 + items_depth (items_of (map data_of kids))) (sym (node_data tag members kids))
     (step_shallow record { tag = tag; members = members; kids = map data_of kids })
 
+-- what is printed of a tree nests at most two levels of JSON for each level of elements, and two more
 pub printed_shallow : (code_of : Reading) (levels : ℕ) (d : Data) → depth (reprint code_of levels d) ≤ 2 * levels + 2
 printed_shallow code_of zero d = node_shallow Scxml [] []
 printed_shallow code_of (suc levels) d =

@@ -163,15 +163,18 @@ module _ (code_of : Reading) (tag : Tag) (d : Data) (kids : Items) where
       get_member-put_other (codes "kids") (codes "tag") (string (tag_text tag)) (put_kids kids attributes_printed) (apart _ _ refl)
       ∙ get_kids kids attributes_printed no_kids
 
+  -- the child elements that were printed are those that are read
   pub kids_again : kids_at printed ≡ kids
   kids_again = ap (λ o. unwrap_or (option_and_then as_array o) no_items) kids_printed ∙ kids_value_at kids
 
   text_again : get (codes "tag") printed ≡ Some (string (tag_text tag))
   text_again = get_member-put (codes "tag") (string (tag_text tag)) (put_kids kids attributes_printed)
 
+  -- the tag that was printed is the one that is read
   pub tag_printed : tag_at printed ≡ Some tag
   tag_printed = ap (λ o. option_and_then tag_of (text_of o)) text_again ∙ tag_again tag
 
+  -- what was printed has a text at `tag`
   pub some_tag : is_none (text_at (codes "tag") printed) ≡ false
   some_tag = ap (λ o. is_none (text_of o)) text_again
 
@@ -205,6 +208,7 @@ module _ (code_of : Reading) (tag : Tag) (d : Data) (kids : Items) where
         ∙ ap (option_map (λ m. (attribute_text a, m))) (kept_again code_of (form_of tag a) (kept a) (stable_at a inside))
         ∙ sym (member_entry d a)
 
+    -- the attributes that were printed are read as they were kept
     pub members_again : members_at code_of tag printed ≡ members_at code_of tag d
     members_again = filter_map_alike (λ a. is_in a (attributes tag)) _ _ (attributes tag) member_again (each_in tag)
 
@@ -251,6 +255,7 @@ pub record IsGood (code_of : Reading) (before : ℕ) (path : List ℕ) (tag : Ta
   pub none : tagged_fault code_of before record { path = path; value = e } tag ≡ None
   pub members : members_at code_of tag e ≡ members_at code_of tag d
 
+-- an element without a fault is printed without one, with the same attributes
 pub tagged_again : (code_of : Reading) → ReadsPrinted code_of → (before : ℕ) (path : List ℕ) (tag : Tag) (d : Data) (kids : Items)
     → tagged_fault code_of before record { path = path; value = d } tag ≡ None
     → IsGood code_of before path tag d (printed code_of tag d kids)
@@ -283,12 +288,14 @@ has_tag false true f g h o more none = absurd (cc)
 has_tag false false f g h None more none = absurd (cc)
 has_tag false false f g h (Some t) more none = record { shallow = refl; tag = t; there = refl; none = none }
 
+-- an element without a fault of its own has a known tag, and stands no deeper than the limit
 pub tag_without_fault : (code_of : Reading) (before : ℕ) (path : List ℕ) (d : Data) → own_fault code_of before record { path = path; value = d } ≡ None
     → HasTag (nat_le 40 (length path)) (tag_at d) (tagged_fault code_of before record { path = path; value = d })
 unfolding own_fault
 tag_without_fault code_of before path d none =
     has_tag (is_none (text_at (codes "tag") d)) (nat_le 40 (length path)) _ _ _ (tag_at d) (tagged_fault code_of before record { path = path; value = d }) none
 
+-- an element of a known tag that is not too deep has no more faults than those of its tag
 pub no_own_fault : (code_of : Reading) (before : ℕ) (path : List ℕ) (tag : Tag) (d : Data) → is_none (text_at (codes "tag") d) ≡ false
     → nat_le 40 (length path) ≡ false → tag_at d ≡ Some tag → tagged_fault code_of before record { path = path; value = d } tag ≡ None
     → own_fault code_of before record { path = path; value = d } ≡ None

@@ -31,6 +31,7 @@ abbrev pub ReadsPrinted : Reading → Type 0
 ReadsPrinted code_of = (text : List ℕ) (e : Expr) → code_of text ≡ Some e → code_of (expr_text e) ≡ Some e
 
 module _ (code_of : Reading) where
+  -- a value that should be an expression and is outside the grammar
   abbrev pub is_bad_value : Form → Option Data → Bool
   is_bad_value f o = is_code f && option_map_or (λ text. is_none (code_of text)) (text_of o) false
 
@@ -61,16 +62,19 @@ module _ (code_of : Reading) where
   string_stable again f None fits = tt
   string_stable again f (Some text) fits = text_stable again f text fits
 
+  -- what is kept of a value of the right form has that form, and is kept again as it is
   pub stable : ReadsPrinted code_of → (f : Form) (o : Option Data) → is_fit_value f o ≡ true → IsStable f (kept_of f o)
   stable again f None fits = tt
   stable again f (Some v) fits = string_stable again f (as_str v) fits
 
   -- ---- what is printed for what is kept
 
+  -- what is printed of it has the right form
   pub fit_again : (f : Form) (kept : Option Member) → IsStable f kept → is_fit_value f (option_map value kept) ≡ true
   fit_again f None is = refl
   fit_again f (Some m) is = is.0
 
+  -- what is printed of it is kept as what it was
   pub kept_again : (f : Form) (kept : Option Member) → IsStable f kept → kept_of f (option_map value kept) ≡ kept
   kept_again f None is = refl
   kept_again f (Some m) is = is.1
@@ -83,6 +87,7 @@ module _ (code_of : Reading) where
   not_bad form.Code m is = some_code (code_of (member_text m)) m is
   not_bad f m is = refl
 
+  -- what is printed of it is no bad expression
   pub good_again : (f : Form) (kept : Option Member) → IsStable f kept → is_bad_value f (option_map value kept) ≡ false
   good_again f None is = and_right (is_code f) false refl
   good_again f (Some m) is = not_bad f m is.1
@@ -106,6 +111,7 @@ module _ (code_of : Reading) where
   string_given f None kept fits good = absurd (true≢false (sym fits))
   string_given f (Some text) kept fits good = text_given f text kept good
 
+  -- what is printed is there exactly where the value was, in a form that is kept
   pub given_again : (f : Form) (o : Option Data) → is_kept f ≡ true → is_fit_value f o ≡ true → is_bad_value f o ≡ false
       → is_some (option_map value (kept_of f o)) ≡ is_some o
   given_again f None kept fits good = refl

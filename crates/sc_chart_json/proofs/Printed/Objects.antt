@@ -25,6 +25,7 @@ by_order P Less a b c ha hb hc = ha
 by_order P Equal a b c ha hb hc = hb
 by_order P Greater a b c ha hb hc = hc
 
+-- a member with a known name leaves all names known
 pub known-put : (tag : Tag) (k : List ℕ) (d : Data) (ms : Members) → is_known tag k ≡ true → are_known tag ms ≡ true → are_known tag (put k d ms) ≡ true
 known-put tag k d no_members known all = and_from _ true known refl
 known-put tag k d (member l e ms) known all =
@@ -32,12 +33,14 @@ known-put tag k d (member l e ms) known all =
     by_order (λ ms. are_known tag ms ≡ true) (slice_cmp nat_cmp k l) _ _ _
     (and_from (is_known tag k) _ known all) all (and_from (is_known tag l) _ both.0 (known-put tag k d ms known both.1))
 
+-- a member makes an object no deeper than the deeper of the two
 pub depth-put : (k : List ℕ) (d : Data) (ms : Members) → members_depth (put k d ms) ≤ max (depth d) (members_depth ms)
 depth-put k d no_members = omega arith
 depth-put k d (member l e ms) =
     let later = depth-put k d ms in
     by_order (λ new. members_depth new ≤ max (depth d) (max (depth e) (members_depth ms))) (slice_cmp nat_cmp k l) _ _ _ (omega arith) (omega arith) (omega arith)
 
+-- a member without a float leaves an object without one
 pub float-put : (k : List ℕ) (d : Data) (ms : Members) → has_float d ≡ false → members_have_float ms ≡ false → members_have_float (put k d ms) ≡ false
 float-put k d no_members none all = or_from _ false none refl
 float-put k d (member l e ms) none all =
@@ -47,9 +50,11 @@ float-put k d (member l e ms) none all =
 
 -- ---- the members of a node, which has so many of its attributes
 
+-- an attribute as JSON: a string
 abbrev pub value : Member → Data
 value m = string (member_text m)
 
+-- the attribute with its name, where it is kept
 abbrev pub entry : (Attribute → Option Member) → Attribute → Option (List ℕ × Member)
 entry kept a = option_map (λ m. (attribute_text a, m)) (kept a)
 
@@ -60,6 +65,7 @@ or (Some d) later = Some d
 abbrev found : Bool → Option Member → Option Data → Option Data
 found inside kept given = if inside then or (option_map value kept) given else given
 
+-- texts that the test tells apart are not equal
 pub apart : (a b : List ℕ) → bytes_eq a b ≡ false → (a ≡ b → ⊥)
 apart a b e same = true≢false (sym ((bytes_eq-Decides a b).1 same) ∙ e)
 
@@ -99,6 +105,7 @@ module _ (kept : Attribute → Option Member) where
   or_nothing None = refl
   or_nothing (Some d) = refl
 
+  -- an object of these attributes has at the name of each one what was kept of it
   pub get_members : (a : Attribute) (row : List Attribute) → is_in a row ≡ true
       → get_member (attribute_text a) (put_members (filter_map (entry kept) row) no_members) ≡ option_map value (kept a)
   get_members a row inside = found_members a row no_members ∙ ap (λ v. found v (kept a) None) inside ∙ or_nothing (option_map value (kept a))
@@ -115,6 +122,7 @@ module _ (kept : Attribute → Option Member) where
       by None none later = rw none (later given)
       by (Some m) some later = rw some (later (put (attribute_text b) (value m) given) ∙ get_member-put_other name (attribute_text b) (value m) given (apart _ _ (other b)))
 
+  -- attributes with known names leave all names known
   pub known_members : (tag : Tag) (row : List Attribute) (given : Members) → list_all (λ a. is_known tag (attribute_text a)) row ≡ true
       → are_known tag given ≡ true → are_known tag (put_members (filter_map (entry kept) row) given) ≡ true
   known_members tag [] given all known = known

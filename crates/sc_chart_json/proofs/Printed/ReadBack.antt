@@ -122,6 +122,7 @@ printed_back text items (Ok t) c same is utf8 reads =
     let P : List ℕ → Type 0 = λ t. length t ≤ 1_048_576 → chart_of expr_of t ≡ Ok c in
     subst P (sym same) (chart_read_back text items c is utf8 reads)
 
+-- the text of a chart is the compact text of its root as JSON
 pub chart_text_data : (c : Chart) → compact_text (data_of c.root) ≡ chart_text c
 unfolding chart_text
 chart_text_data c = refl

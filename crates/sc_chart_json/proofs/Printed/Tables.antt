@@ -34,24 +34,29 @@ pub same_attribute : (a b : Attribute) → bytes_eq (attribute_text a) (attribut
 same_attribute a b same =
     some_same a b (sym (named a) ∙ ap attribute_of ((bytes_eq-Decides (attribute_text a) (attribute_text b)).0 same) ∙ named b)
 
+-- the name of a tag is read as that tag
 pub tag_again : (t : Tag) → tag_of (tag_text t) ≡ Some t
 tag_again tag.Scxml = refl
 tag_again t = refl
 
 -- no attribute is named as what else an element has
 
+-- no attribute is named `tag`
 pub not_tag : (a : Attribute) → bytes_eq (attribute_text a) (codes "tag") ≡ false
 not_tag attribute.Array = refl
 not_tag a = refl
 
+-- no attribute is named `kids`
 pub not_kids : (a : Attribute) → bytes_eq (attribute_text a) (codes "kids") ≡ false
 not_kids attribute.Array = refl
 not_kids a = refl
 
+-- `kids` is the name of no attribute
 pub kids_other : (a : Attribute) → bytes_eq (codes "kids") (attribute_text a) ≡ false
 kids_other attribute.Array = refl
 kids_other a = refl
 
+-- whether an attribute stands in a row
 abbrev pub is_in : Attribute → List Attribute → Bool
 is_in a row = list_any (λ b. bytes_eq (attribute_text a) (attribute_text b)) row
 
@@ -66,6 +71,7 @@ is_kept form.Version = false
 is_kept form.NameSpace = false
 is_kept f = true
 
+-- whether an element may have the attribute, and it is kept
 abbrev pub is_kept_in : Tag → Attribute → Bool
 is_kept_in t a = is_in a (attributes t) && is_kept (form_of t a)
 
@@ -74,6 +80,7 @@ pub required_kept : (t : Tag) → list_all (is_kept_in t) (required t) ≡ true
 required_kept tag.Scxml = refl
 required_kept t = refl
 
+-- both of two attributes of which an element has exactly one are kept
 pub either_kept : (t : Tag) → option_map_or (λ two. is_kept_in t two.0 && is_kept_in t two.1) (either t) true ≡ true
 either_kept tag.Scxml = refl
 either_kept t = refl

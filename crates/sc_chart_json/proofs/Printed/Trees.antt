@@ -52,11 +52,13 @@ first_fault-append code_of before (p ∷ ps) qs =
 
 -- ---- what is printed of a tree
 
+-- an element as JSON, from its child elements as JSON
 pub node_data : (tag : Tag) (members : List (List ℕ × Member)) (kids : List Node)
     → data_of (node tag members kids) ≡ data_step record { tag = tag; members = members; kids = map data_of kids }
 unfolding data_of
 node_data tag members kids = fold-roll-Node Data data_step record { tag = tag; members = members; kids = kids }
 
+-- the items, each changed in the same way
 abbrev pub mapped : (Data → Data) → Items → Items
 mapped f no_items = no_items
 mapped f (item d ds) = item (f d) (mapped f ds)
@@ -65,9 +67,11 @@ kids_data : (below : Data → Node) (ds : Items) → items_of (map data_of (kid_
 kids_data below no_items = refl
 kids_data below (item d ds) = ap (item (data_of (below d))) (kids_data below ds)
 
+-- a value that was read as a tree, and is printed again
 abbrev pub reprint : Reading → ℕ → Data → Data
 reprint code_of levels d = data_of (tree code_of levels d)
 
+-- what is printed of a tree is its root with what is printed of the trees below it
 pub tree_data : (code_of : Reading) (levels : ℕ) (d : Data) (tag : Tag) → unwrap_or (tag_at d) Scxml ≡ tag
     → reprint code_of (suc levels) d ≡ printed code_of tag d (mapped (reprint code_of levels) (kids_at d))
 tree_data code_of levels d tag is =
@@ -159,10 +163,12 @@ goes_again code_of again (suc levels) before path d none = level_again code_of a
 
 -- ---- the whole tree
 
+-- a value without a fault is printed without one
 pub no_fault_again : (code_of : Reading) → ReadsPrinted code_of → (levels : ℕ) (d : Data) → first_fault code_of 0 (places levels [] d) ≡ None
     → first_fault code_of 0 (places levels [] (reprint code_of levels d)) ≡ None
 no_fault_again code_of again levels d none = (goes_again code_of again levels 0 [] d none).none
 
+-- what is printed of a value without a fault is read as the same tree
 pub tree_again : (code_of : Reading) → ReadsPrinted code_of → (levels : ℕ) (d : Data) → first_fault code_of 0 (places levels [] d) ≡ None
     → tree code_of levels (reprint code_of levels d) ≡ tree code_of levels d
 tree_again code_of again levels d none = (goes_again code_of again levels 0 [] d none).same

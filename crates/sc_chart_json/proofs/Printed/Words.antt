@@ -45,6 +45,7 @@ kept_solid (part ∷ parts) all =
     by true h black later = and_from _ _ (and_from _ _ h black) later
     by false h black later = later
 
+-- each piece of a text has something in it, and no white space
 pub pieces_solid : (text : List ℕ) → list_all is_solid (pieces text) ≡ true
 pieces_solid text = kept_solid (split_at is_white_space text) (split_black text)
 
@@ -88,6 +89,7 @@ joined_pieces (w ∷ v ∷ words) all =
     ap (filter is_some_piece) (split_before w (join_with_byte 32 (v ∷ words)) solid.1)
     ∙ keeps w (split_at is_white_space (join_with_byte 32 (v ∷ words))) (v ∷ words) solid.0 (joined_pieces (v ∷ words) both.1)
 
+-- the pieces of a text, joined by single spaces, are its pieces again
 pub pieces_again : (text : List ℕ) → pieces (join_with_byte 32 (pieces text)) ≡ pieces text
 pieces_again text = joined_pieces (pieces text) (pieces_solid text)
 
@@ -150,6 +152,7 @@ tight_again : (words : List (List ℕ)) → 0 < length words → list_all is_sol
 tight_again [] some all = absurd (omega arith)
 tight_again (w ∷ words) some all = tight_joined w words all
 
+-- what is joined passes each test of its pieces that the text passed
 pub are_pieces_again : (test : List ℕ → Bool) (text : List ℕ) → are_pieces test text ≡ true → are_pieces test (join_with_byte 32 (pieces text)) ≡ true
 unfolding are_pieces
 are_pieces_again test text are =

@@ -12,6 +12,7 @@ use Rattle.sc_types.specs.declared.chart.Node.{Node, out-Node}
 use Rattle.sc_types.specs.declared.chart.Node.TheFolds.{fold_out-Node}
 use Rattle.serde_json.specs.Data.{Data}
 
+-- child elements that there are stand in the object as an array
 pub some_kids : (vs : List Value) (given : Members) → 0 < length vs → put (codes "kids") (array (items_view vs)) given ≡ put_kids (items_view vs) given
 some_kids [] given some = absurd (omega arith)
 some_kids (v ∷ vs) given some = refl
@@ -47,6 +48,7 @@ join_next (v ∷ ws) (suc i) w is within high =
 
 -- ---- members
 
+-- an entry of the map is a member of the object, with the entry's value
 pub inserted : (old new : List Entry) (k : String Global) (name : List ℕ) (v : Value) → new ≡ insert_entry string_cmp old k v → string_bytes k ≡ name
     → members_view new ≡ put name (view v) (members_view old)
 inserted old new k name v is named =

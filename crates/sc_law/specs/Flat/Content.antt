@@ -10,7 +10,7 @@ use Rattle.sc_types.specs.declared.history.LogLine.{LogLine}
 use Rattle.sc_types.specs.declared.value.Value.{Value}
 use Rattle.sc_types.specs.declared.value.Value.TheVariants as value
 use Rattle.sc_law.specs.declared.flat.run_state.RunState.{RunState}
-use Rattle.sc_law.specs.Nodes.{member, plain_text, code_of}
+use Rattle.sc_types.specs.Attributes.{member, plain_text, code_of}
 
 -- the value of a text literal; the charts of this version have no other expressions
 abbrev pub literal_of : Expr-F Expr → Value

@@ -10,7 +10,7 @@ use Rattle.sc_types.specs.declared.chart.Tag.{Tag}
 use Rattle.sc_types.specs.declared.chart.Tag.TheVariants.{Transition}
 use Rattle.sc_law.specs.declared.flat.run_state.RunState.{RunState}
 use Rattle.sc_law.specs.declared.flat.transition.Transition as row
-use Rattle.sc_law.specs.Nodes.{member, words_of}
+use Rattle.sc_types.specs.Attributes.{member, words_of}
 use Rattle.sc_law.specs.Tree.{kids_of, is_below, ancestors}
 use Rattle.sc_law.specs.Kinds.{is_atomic}
 use Rattle.sc_law.specs.Flat.Sets.{Histories, transition_node, leaves}

@@ -6,7 +6,7 @@ use Rattle.std.specs.List.{list_any, list_all, filter_map}
 use Rattle.sc_types.specs.declared.chart.Chart.{Chart}
 use Rattle.sc_types.specs.declared.chart.Node.{Node}
 use Rattle.sc_law.specs.declared.flat.transition.Transition.{Transition}
-use Rattle.sc_law.specs.Nodes.{member, words_of}
+use Rattle.sc_types.specs.Attributes.{member, words_of}
 use Rattle.sc_law.specs.Tree.{state_count, kids_of, is_below, ancestors, state_named}
 
 -- the recorded states of each history that has any

@@ -1,11 +1,9 @@
 ghost use Rattle.std.specs.Prelude.{◌≡◌, IfOk, OnOk};
-ghost use Rattle.sc_law.specs.Nodes.{member};
 ghost use Rattle.sc_types.specs.declared.chart.Node.{out-Node};
 ghost use Rattle.sc_law.specs.Flat.Content.{value_of, log_line, run_element, run_block};
 
 use crate::flat::run_state::RunState;
-use crate::tree::member;
-use sc_types::{Bytes, Expr, LogLine, Member, NoMemory, Node, Plain, Sequence, Tag, Value};
+use sc_types::{Attribute, Bytes, Expr, LogLine, NoMemory, Node, Plain, Tag, Value};
 use std::alloc::Global;
 
 /// The value of a text literal; the charts of this version have no other expressions.
@@ -14,25 +12,25 @@ fn value_of(alloc: Global, code: &Expr) -> Result<Value, NoMemory>
 {
     match code {
         Expr::Text(text) => Ok(Value::Text(text.copy()?)),
-        _ => Ok(Value::Text(Sequence::new(alloc))),
+        _ => Ok(Value::Text(Bytes::new(alloc))),
     }
 }
 
 fn log_label(alloc: Global, node: &Node) -> Result<Bytes, NoMemory>
     ensures { IfOk result (λ l. l ≡ (log_line node.now).label) }
 {
-    match member(b"label", node) {
-        Some(Member::Plain(text)) => text.copy(),
-        _ => Ok(Sequence::new(alloc)),
+    match node.text(Attribute::Label) {
+        Some(text) => Bytes::from_slice(alloc, text),
+        None => Ok(Bytes::new(alloc)),
     }
 }
 
 fn log_value(alloc: Global, node: &Node) -> Result<Value, NoMemory>
     ensures { IfOk result (λ v. v ≡ (log_line node.now).value) }
 {
-    match member(b"expr", node) {
-        Some(Member::Code(code)) => value_of(alloc, code),
-        _ => Ok(Value::Text(Sequence::new(alloc))),
+    match node.expr(Attribute::Expr) {
+        Some(code) => value_of(alloc, code),
+        None => Ok(Value::Text(Bytes::new(alloc))),
     }
 }
 

@@ -10,9 +10,9 @@ ghost use Rattle.sc_law.specs.Flat.Selection.{is_transition, transitions_of, mat
 use crate::flat::run_state::RunState;
 use crate::flat::sets::{leaves, transition_node};
 use crate::flat::transition::Transition;
-use crate::tree::{Tree, member};
+use crate::tree::Tree;
 use sc_names::piece_matches;
-use sc_types::{Bytes, Member, NoMemory, Node, Sequence, Tag};
+use sc_types::{Attribute, Bytes, Member, NoMemory, Node, Sequence, Tag};
 use std::alloc::Global;
 
 fn is_transition(tag: Tag) -> bool
@@ -49,7 +49,7 @@ fn any_matches(descriptors: &[Bytes], name: &[u8]) -> bool
 fn matches_event(event: Option<&[u8]>, node: &Node) -> bool
     ensures { result ≡ matches_event (option_copied event.entry) node.now }
 {
-    match (event, member(b"event", node)) {
+    match (event, node.attribute(Attribute::Event)) {
         (None, found) => found.is_none(),
         (Some(name), Some(Member::Items(words))) => any_matches(words.slice(), name),
         (Some(_), _) => false,

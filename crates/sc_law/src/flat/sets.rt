@@ -1,13 +1,12 @@
 ghost use Rattle.std.specs.Prelude.{◌≡◌, ◌==◌, ◌++◌, not, nat_lt, IfOk, OnOk, Option, [], filter, find};
 ghost use Rattle.std.specs.List.{list_any, filter_map};
 ghost use Rattle.std.specs.Option.{option_copied, option_map_or};
-ghost use Rattle.sc_law.specs.Nodes.{words_of, member};
 ghost use Rattle.sc_law.specs.Tree.{state_named};
 ghost use Rattle.sc_law.specs.Flat.Sets.{put, put_all, contains, without, transition_node, targets, is_above_all, nearest_above, domain, leaves, exit_set};
 
 use crate::flat::transition::Transition;
-use crate::tree::{Tree, member, state_number};
-use sc_types::{Bytes, Member, NoMemory, Node, Sequence};
+use crate::tree::{Tree, state_number};
+use sc_types::{Attribute, Bytes, NoMemory, Node, Sequence};
 use std::alloc::Global;
 
 /// Appendix D, OrderedSet: a state joins an ascending set.
@@ -78,16 +77,6 @@ pub(crate) fn transition_node<'a>(tree: &'a Tree, transition: Transition) -> Opt
     tree.kids_of(transition.source).get(transition.place)
 }
 
-/// The words of an attribute that is a list of words; none where it is absent.
-pub(crate) fn member_words<'a>(name: &[u8], node: &'a Node) -> &'a [Bytes]
-    ensures { result.now ≡ option_map_or words_of (member name.now node.now) [] }
-{
-    match member(name, node) {
-        Some(Member::Items(words)) => words.slice(),
-        _ => &[],
-    }
-}
-
 /// The states that a transition targets, in the order of its `target`.
 pub(crate) fn targets(
     alloc: Global,
@@ -97,7 +86,7 @@ pub(crate) fn targets(
     ensures { IfOk result (λ ts. ts ≡ targets tree.now transition) }
 {
     match transition_node(tree, transition) {
-        Some(node) => states_named(alloc, tree, member_words(b"target", node)),
+        Some(node) => states_named(alloc, tree, node.words(Attribute::Target)),
         None => Ok(Sequence::new(alloc)),
     }
 }
