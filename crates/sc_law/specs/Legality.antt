@@ -16,6 +16,8 @@ use Rattle.sc_types.specs.declared.chart.Node.{Node}
 use Rattle.sc_types.specs.declared.chart.Tag.{Tag}
 use Rattle.sc_types.specs.declared.chart.Tag.TheVariants as tag
 use Rattle.sc_types.specs.declared.expr.Expr.{Expr}
+use Rattle.sc_types.specs.declared.faults.TheConstants.{DOUBLE_ID, UNKNOWN_TARGET, BAD_INITIAL, BAD_HISTORY, BAD_TARGETS, EMPTY_TRANSITION, BAD_CHILD, BAD_LIMIT, BAD_SEND, BAD_INVOKE, BAD_DATA, EMPTY_FINALIZE}
+use Rattle.sc_types.specs.declared.limits.TheConstants.{ROUND_LIMIT}
 use Rattle.sc_types.specs.declared.expr.Expr.TheVariants.{Active}
 use Rattle.sc_types.specs.Attributes.{given, has, words_at, text_at, is_text_at, code_of}
 use Rattle.sc_law.specs.Nodes.{Path, elements, element, is_root, parent, is_same, kids, leads_on, tag_of, is_tag}
@@ -236,7 +238,7 @@ is_bad_child c path =
 -- 27: the rounds that a turn may take
 abbrev pub is_bad_limit : Chart → Path → Bool
 is_bad_limit c path = is_root path
-    && option_map_or (λ text. not (nat_le 1 (digits_value 10 text) && nat_le (digits_value 10 text) 10000)) (text_at attribute.Limit (element c path)) false
+    && option_map_or (λ text. not (nat_le 1 (digits_value 10 text) && nat_le (digits_value 10 text) ROUND_LIMIT)) (text_at attribute.Limit (element c path)) false
 
 -- 28: one name for the event, one for the id and one for the delay; data in one way
 abbrev pub is_bad_send_node : Node → Bool
@@ -291,9 +293,10 @@ is_empty_finalize c path = is_tag tag.Finalize (tag_of (element c path)) && nat_
 
 -- the faults with their numbers
 abbrev pub tests : List (ℕ × (Chart → Path → Bool))
-tests = (20, is_double_id) ∷ (21, has_unknown_target) ∷ (22, is_bad_initial) ∷ (23, is_bad_history) ∷ (24, has_bad_targets)
-    ∷ (25, is_empty_transition) ∷ (26, is_bad_child) ∷ (27, is_bad_limit) ∷ (28, is_bad_send) ∷ (29, is_bad_invoke)
-    ∷ (30, is_bad_data) ∷ (31, is_empty_finalize) ∷ []
+tests = (DOUBLE_ID, is_double_id) ∷ (UNKNOWN_TARGET, has_unknown_target) ∷ (BAD_INITIAL, is_bad_initial)
+    ∷ (BAD_HISTORY, is_bad_history) ∷ (BAD_TARGETS, has_bad_targets) ∷ (EMPTY_TRANSITION, is_empty_transition)
+    ∷ (BAD_CHILD, is_bad_child) ∷ (BAD_LIMIT, is_bad_limit) ∷ (BAD_SEND, is_bad_send) ∷ (BAD_INVOKE, is_bad_invoke)
+    ∷ (BAD_DATA, is_bad_data) ∷ (EMPTY_FINALIZE, is_empty_finalize) ∷ []
 
 -- the smallest number at an element
 abbrev pub number_at : Chart → Path → Option ℕ

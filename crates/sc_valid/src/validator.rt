@@ -7,35 +7,16 @@ ghost use Rattle.sc_valid.specs.Numbers.{later_number};
 use crate::index::ChartIndex;
 use crate::legal::LegalChart;
 use sc_law::{Path, element_paths};
-use sc_types::{Chart, ChartFault, ChartRefusal, NoMemory, Sequence};
+use sc_base::{Bytes, NoMemory, Sequence};
+use sc_types::faults::{
+    BAD_CHILD, BAD_DATA, BAD_HISTORY, BAD_INITIAL, BAD_INVOKE, BAD_LIMIT, BAD_SEND, BAD_TARGETS, DOUBLE_ID,
+    EMPTY_FINALIZE, EMPTY_TRANSITION, UNKNOWN_TARGET,
+};
+use sc_types::{Chart, ChartFault, ChartRefusal};
 use std::alloc::Global;
 
-const DOUBLE_ID: u8 = 20;
-
-const UNKNOWN_TARGET: u8 = 21;
-
-const BAD_INITIAL: u8 = 22;
-
-const BAD_HISTORY: u8 = 23;
-
-const BAD_TARGETS: u8 = 24;
-
-const EMPTY_TRANSITION: u8 = 25;
-
-const BAD_CHILD: u8 = 26;
-
-const BAD_LIMIT: u8 = 27;
-
-const BAD_SEND: u8 = 28;
-
-const BAD_INVOKE: u8 = 29;
-
-const BAD_DATA: u8 = 30;
-
-const EMPTY_FINALIZE: u8 = 31;
-
-/// Takes a chart that is legal. Answers `Fault` with the first fault of one that is not, and `NoMemory` where
-/// memory was wanting; either way the chart is given up.
+/// Takes a chart that is legal. Answers `Fault` with the first fault of one that is not, and `NoMemory` out
+/// of memory; either way the chart is given up.
 pub fn validate(alloc: Global, chart: Chart) -> Result<LegalChart, ChartRefusal>
     ensures legal { IfOk result (λ l. (l ≡ chart) × (legal_fault chart ≡ None)) }
     ensures fault { (f : ChartFault) → result ≡ Err (ChartRefusal.Fault f) → legal_fault chart ≡ Some f }
@@ -118,7 +99,7 @@ fn fault(alloc: Global, number: u8, path: &[usize]) -> Result<ChartFault, NoMemo
     Ok(ChartFault {
         number,
         path: short_path(alloc, path)?,
-        member: Sequence::new(alloc),
+        member: Bytes::new(alloc),
     })
 }
 
