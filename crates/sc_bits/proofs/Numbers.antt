@@ -3,7 +3,8 @@ use Rattle.std.proofs.Common.{◌≡◌, ℕ, ◌+◌, ◌<◌, ◌≤◌, ◌�
 use Rattle.std.proofs.lemmas.Bool.{cases_order}
 use Rattle.std.proofs.lemmas.Bool.Decides.{nat_tests}
 use Rattle.std.specs.List.{list_any}
-use Rattle.sc_bits.specs.Rows.{IsAscending, has, with_number, joined}
+use Rattle.sc_base.specs.Ascending.{contains, with_number, joined}
+use Rattle.sc_bits.specs.Rows.{IsAscending}
 use Rattle.sc_bits.specs.Words.{numbers}
 
 put : Bool → ℕ → List ℕ → List ℕ
@@ -80,10 +81,10 @@ any-found p f i (suc c) k r q h = any-put p (f i) i (numbers f (i + 1) c) ∙ el
   ]
 ]
 
--- ---- has
+-- ---- contains
 
 -- a number below the range is not among those that pass
-pub has-below : (f : ℕ → Bool) (i c n : ℕ) → n < i → has n (numbers f i c) ≡ false
+pub has-below : (f : ℕ → Bool) (i c n : ℕ) → n < i → contains (numbers f i c) n ≡ false
 has-below f i c n h = any-none (λ m. m == n) f i c (λ k r q. by (f k) k r)
   where
     by : (v : Bool) (k : ℕ) → i ≤ k → (v && k == n) ≡ false
@@ -99,10 +100,10 @@ has-other true k n h = grind (arith, nat_tests)
 has-other false k n h = refl
 
 -- a number of the range is among those that pass exactly where it passes
-pub has-numbers : (f : ℕ → Bool) (i c n : ℕ) → i ≤ n → n < i + c → has n (numbers f i c) ≡ f n
+pub has-numbers : (f : ℕ → Bool) (i c n : ℕ) → i ≤ n → n < i + c → contains (numbers f i c) n ≡ f n
 has-numbers f i c n r q = by (f n) refl
   where
-    by : (v : Bool) → f n ≡ v → has n (numbers f i c) ≡ v
+    by : (v : Bool) → f n ≡ v → contains (numbers f i c) n ≡ v
     by true h = any-found (λ m. m == n) f i c n r q (has-here (f n) n ∙ h)
     by false h = any-none (λ m. m == n) f i c (λ k a b. elim (cases_order k n) [
       | inl e ↦ ap (λ j. f j && j == n) e ∙ has-here (f n) n ∙ h

@@ -4,7 +4,8 @@ use Rattle.std.proofs.lemmas.Bool.{cases_lt}
 use Rattle.std.proofs.lemmas.Bool.Decides.{nat_tests}
 use Rattle.std.specs.Bool.{MatchBool}
 use Rattle.std.specs.List.{list_any}
-use Rattle.sc_bits.specs.Rows.{RowOf, has, with_number, joined}
+use Rattle.sc_base.specs.Ascending.{contains, with_number, joined}
+use Rattle.sc_bits.specs.Rows.{RowOf}
 use Rattle.sc_bits.specs.Words.{bit_of, numbers, Holds, IsNextBit}
 use Rattle.sc_bits.proofs.Numbers.{numbers-same, numbers-none, filter-numbers, has-numbers, with_number-numbers, joined-numbers, any-none, any-found, find-none, find-found}
 
@@ -49,32 +50,32 @@ members-join w v old mid new other also g e f h =
     ∙ ap (λ u. joined (members_of w old) (members_of u other)) g
 
 -- a number below the width is a member exactly where its bit is set
-pub has-member : (w n : ℕ) (words : List ℕ) → n < w → has n (members_of w words) ≡ bit_of words n
+pub has-member : (w n : ℕ) (words : List ℕ) → n < w → contains (members_of w words) n ≡ bit_of words n
 has-member w n words h = has-numbers (bit_of words) 0 w n (omega arith) (omega arith)
 
 -- the bits of both rows give the members that the other row has
 pub members-meet : (w v : ℕ) (old mid new other also : List ℕ) → w ≡ v → mid ≡ old → also ≡ other
     → ((k : ℕ) → bit_of new k ≡ (bit_of mid k && bit_of also k))
-    → members_of w new ≡ filter (λ m. has m (members_of v other)) (members_of w old)
+    → members_of w new ≡ filter (λ m. contains (members_of v other) m) (members_of w old)
 members-meet w v old mid new other also g e f h =
-    numbers-same (bit_of new) (λ k. bit_of mid k && has k (members_of w also)) 0 w
+    numbers-same (bit_of new) (λ k. bit_of mid k && contains (members_of w also) k) 0 w
     (λ k a b. h k ∙ ap (λ v. bit_of mid k && v) (sym (has-member w k also (omega arith))))
-    ∙ sym (filter-numbers (λ m. has m (members_of w also)) (bit_of mid) 0 w)
-    ∙ ap (λ ws. filter (λ m. has m (members_of w also)) (members_of w ws)) e
-    ∙ ap (λ ws. filter (λ m. has m (members_of w ws)) (members_of w old)) f
-    ∙ ap (λ u. filter (λ m. has m (members_of u other)) (members_of w old)) g
+    ∙ sym (filter-numbers (λ m. contains (members_of w also) m) (bit_of mid) 0 w)
+    ∙ ap (λ ws. filter (λ m. contains (members_of w also) m) (members_of w ws)) e
+    ∙ ap (λ ws. filter (λ m. contains (members_of w ws) m) (members_of w old)) f
+    ∙ ap (λ u. filter (λ m. contains (members_of u other) m) (members_of w old)) g
 
 -- the bits that the other row lacks give the members that it lacks
 pub members-minus : (w v : ℕ) (old mid new other also : List ℕ) → w ≡ v → mid ≡ old → also ≡ other
     → ((k : ℕ) → bit_of new k ≡ (bit_of mid k && not (bit_of also k)))
-    → members_of w new ≡ filter (λ m. not (has m (members_of v other))) (members_of w old)
+    → members_of w new ≡ filter (λ m. not (contains (members_of v other) m)) (members_of w old)
 members-minus w v old mid new other also g e f h =
-    numbers-same (bit_of new) (λ k. bit_of mid k && not (has k (members_of w also))) 0 w
+    numbers-same (bit_of new) (λ k. bit_of mid k && not (contains (members_of w also) k)) 0 w
     (λ k a b. h k ∙ ap (λ v. bit_of mid k && not v) (sym (has-member w k also (omega arith))))
-    ∙ sym (filter-numbers (λ m. not (has m (members_of w also))) (bit_of mid) 0 w)
-    ∙ ap (λ ws. filter (λ m. not (has m (members_of w also))) (members_of w ws)) e
-    ∙ ap (λ ws. filter (λ m. not (has m (members_of w ws))) (members_of w old)) f
-    ∙ ap (λ u. filter (λ m. not (has m (members_of u other))) (members_of w old)) g
+    ∙ sym (filter-numbers (λ m. not (contains (members_of w also) m)) (bit_of mid) 0 w)
+    ∙ ap (λ ws. filter (λ m. not (contains (members_of w also) m)) (members_of w ws)) e
+    ∙ ap (λ ws. filter (λ m. not (contains (members_of w ws) m)) (members_of w old)) f
+    ∙ ap (λ u. filter (λ m. not (contains (members_of u other) m)) (members_of w old)) g
 
 -- a number past the width is no bit of both
 common_within : (w : ℕ) (words : List ℕ) (v : Bool) (k : ℕ) → Holds w words → (bit_of words k && v) ≡ true → k < w
@@ -86,16 +87,16 @@ common_within w words v k h e = elim (cases_lt k w) [
 -- two rows have a common bit exactly where a member of the one is a member of the other
 pub meets-members : (w v : ℕ) (words other : List ℕ) (result : Bool) → w ≡ v → Holds w words
     → MatchBool result ((k : ℕ) × ((bit_of words k && bit_of other k) ≡ true)) ((k : ℕ) → (bit_of words k && bit_of other k) ≡ false)
-    → result ≡ list_any (λ m. has m (members_of v other)) (members_of w words)
+    → result ≡ list_any (λ m. contains (members_of v other) m) (members_of w words)
 meets-members w v words other true g h (k, e) =
     let within : k < w = common_within w words (bit_of other k) k h e in
-    sym (any-found (λ m. has m (members_of w other)) (bit_of words) 0 w k (omega arith) (omega arith)
+    sym (any-found (λ m. contains (members_of w other) m) (bit_of words) 0 w k (omega arith) (omega arith)
     (ap (λ v. bit_of words k && v) (has-member w k other within) ∙ e))
-    ∙ ap (λ u. list_any (λ m. has m (members_of u other)) (members_of w words)) g
+    ∙ ap (λ u. list_any (λ m. contains (members_of u other) m) (members_of w words)) g
 meets-members w v words other false g h none =
-    sym (any-none (λ m. has m (members_of w other)) (bit_of words) 0 w
+    sym (any-none (λ m. contains (members_of w other) m) (bit_of words) 0 w
     (λ k a b. ap (λ v. bit_of words k && v) (has-member w k other (omega arith)) ∙ none k))
-    ∙ ap (λ u. list_any (λ m. has m (members_of u other)) (members_of w words)) g
+    ∙ ap (λ u. list_any (λ m. contains (members_of u other) m) (members_of w words)) g
 
 le-true : (n k : ℕ) (v : Bool) → n ≤ k → v ≡ true → (v && nat_le n k) ≡ true
 le-true n k true h e = grind (arith, nat_tests)

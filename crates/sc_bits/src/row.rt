@@ -1,12 +1,13 @@
 ghost use Rattle.std.specs.Prelude.{◌≡◌, ◌<◌, ◌≤◌, ◌==◌, nat_le, not, find, filter, [], IfOk, IfSome};
 ghost use Rattle.std.specs.List.{list_any};
-ghost use Rattle.sc_bits.specs.Rows.{IsAscending, has, with_number, joined};
+ghost use Rattle.sc_base.specs.Ascending.{contains, with_number, joined};
+ghost use Rattle.sc_bits.specs.Rows.{IsAscending};
 
 use crate::words::{
     clear_bit, clear_words, has_bit, join_words, meet_words, minus_words, next_bit, set_bit,
     words_meet,
 };
-use sc_types::NoMemory;
+use sc_base::NoMemory;
 use std::alloc::Global;
 use std::marker::Model;
 
@@ -64,7 +65,7 @@ impl Row {
 
     pub fn has(&self, n: u32) -> bool
         requires { n < self.now.width }
-        ensures { result ≡ has n self.now.members }
+        ensures { result ≡ contains self.now.members n }
     {
         has_bit(self.words.as_slice(), n)
     }
@@ -80,7 +81,7 @@ impl Row {
     /// Keeps the members that the other row has too.
     pub fn meet(&mut self, other: &Row)
         requires { self.old.width ≡ other.now.width }
-        ensures { self.new ≡ record self.old { members = filter (λ m. has m other.now.members) self.old.members } }
+        ensures { self.new ≡ record self.old { members = filter (λ m. contains other.now.members m) self.old.members } }
     {
         meet_words(self.words.as_mut_slice(), other.words.as_slice());
     }
@@ -89,7 +90,7 @@ impl Row {
     pub fn minus(&mut self, other: &Row)
         requires { self.old.width ≡ other.now.width }
         ensures { self.new
-            ≡ record self.old { members = filter (λ m. not (has m other.now.members)) self.old.members } }
+            ≡ record self.old { members = filter (λ m. not (contains other.now.members m)) self.old.members } }
     {
         minus_words(self.words.as_mut_slice(), other.words.as_slice());
     }
@@ -107,7 +108,7 @@ impl Row {
     /// Whether the rows have a member in common.
     pub fn meets(&self, other: &Row) -> bool
         requires { self.now.width ≡ other.now.width }
-        ensures { result ≡ list_any (λ m. has m other.now.members) self.now.members }
+        ensures { result ≡ list_any (λ m. contains other.now.members m) self.now.members }
     {
         words_meet(self.words.as_slice(), other.words.as_slice())
     }

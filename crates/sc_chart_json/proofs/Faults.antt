@@ -5,7 +5,7 @@ use Rattle.std.proofs.lemmas.Option.{none-some}
 use Rattle.std.specs.Option.{option_map_or}
 use Rattle.serde_json.specs.Data.{Data}
 use Rattle.sc_types.specs.ChartTexts.{text_at, tag_at, fault, has_known_members, has_fit_members, bad_code, many_fault, tagged_fault, own_fault, states_at}
-use Rattle.sc_types.specs.Elements.{tag_of, is_state, attribute_text}
+use Rattle.sc_types.specs.Elements.{tag_of, is_numbered, attribute_text}
 use Rattle.sc_types.specs.declared.chart.ChartFault.{ChartFault}
 use Rattle.sc_types.specs.declared.chart.Tag.{Tag}
 use Rattle.sc_expr.specs.Reading.{expr_of}
@@ -66,7 +66,7 @@ pub faultless : (before : ℕ) (path : List ℕ) (d : Data) (t : Tag) → tag_at
     → own_fault expr_of before (place path d) ≡ None
 faultless before path d t e shallow known fit good few = known_tag before path d t e shallow ∙ rw (known, fit, good) few
 
-pub counted : (before : ℕ) (path : List ℕ) (d : Data) (t : Tag) (after : ℕ) → tag_at d ≡ Some t → after ≡ before + (if is_state t then 1 else 0)
+pub counted : (before : ℕ) (path : List ℕ) (d : Data) (t : Tag) (after : ℕ) → tag_at d ≡ Some t → after ≡ before + (if is_numbered t then 1 else 0)
     → after ≡ before + states_at (place path d)
 counted before path d t after e is = rw e is
 

@@ -3,7 +3,7 @@ ghost use Rattle.std.specs.List.{list_all};
 ghost use Rattle.std.specs.Str.Parse.{digits_value};
 ghost use Rattle.sc_types.specs.Delays.{are_digits};
 ghost use Rattle.sc_types.specs.Elements.{is_word_within, are_pieces, is_either, has_leading_zero, is_limit, has_form};
-ghost use Rattle.sc_types.specs.Text.{is_word, is_plain_name};
+ghost use Rattle.sc_base.specs.Text.{is_word, is_plain_name};
 
 use crate::pieces::{is_tight, pieces};
 use sc_expr::read_delay;

@@ -1,6 +1,6 @@
 ghost use Rattle.std.specs.Prelude.{◌≡◌, ◌<◌, ◌≤◌, ◌+◌, ◌-◌, ℕ, [], ◌∷◌, Option, None, Some, Ok, Err, IfOk, OnOk, length, if◌then◌else◌};
 ghost use Rattle.std.specs.Option.{option_map_or};
-ghost use Rattle.sc_types.specs.Elements.{is_state, attribute_text};
+ghost use Rattle.sc_types.specs.Elements.{is_numbered, attribute_text};
 ghost use Rattle.serde_json.specs.View.{view, items_view};
 ghost use Rattle.sc_types.specs.ChartTexts.{chart_of, fault, own_fault, many_fault, bad_code, tag_at, kid_places, places, value_fault, value_chart, members_at};
 ghost use Rattle.sc_types.specs.declared.chart.ChartFault.{ChartFault};
@@ -120,7 +120,7 @@ impl Walk {
     {
         Ok(ChartFault {
             number,
-            path: self.path.copy(alloc)?,
+            path: self.path.copy()?,
             member: Sequence::from_slice(alloc, member)?,
         })
     }
@@ -183,12 +183,12 @@ impl Walk {
     fn count(&mut self, alloc: Global, tag: Tag) -> Result<(), ChartRefusal>
         requires { self.old.states ≤ 4096 }
         ensures none { OnOk result (many_fault self.old.states self.old.path tag ≡ None) }
-        ensures states { OnOk result (self.new.states ≡ self.old.states + (if is_state tag then 1 else 0)) }
+        ensures states { OnOk result (self.new.states ≡ self.old.states + (if is_numbered tag then 1 else 0)) }
         ensures few { OnOk result (self.new.states ≤ 4096) }
         ensures path { OnOk result (self.new.path ≡ self.old.path) }
         ensures fault { (f : ChartFault) → result ≡ Err (ChartRefusal.Fault f) → many_fault self.old.states self.old.path tag ≡ Some f }
     {
-        if !tag.is_state() {
+        if !tag.is_numbered() {
             return Ok(());
         }
         if self.states >= STATE_LIMIT {

@@ -107,7 +107,7 @@ fn member_text(alloc: Global, member: &Member) -> Result<Bytes, NoMemory>
     ensures { IfOk result (λ text. text ≡ member_text member.now) }
 {
     match member {
-        Member::Plain(text) => text.copy(alloc),
+        Member::Plain(text) => text.copy(),
         Member::Items(words) => join_words(alloc, words.slice()),
         Member::Code(code) => print_expr(alloc, code),
     }

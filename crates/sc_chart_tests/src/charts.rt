@@ -547,7 +547,7 @@ pub(crate) fn told(alloc: Global, answer: Result<Chart, ChartRefusal>) -> Result
 #[cycle(states)]
 fn states_in(node: &Node) -> u32 {
     let below = states_below(node.kids.slice());
-    if node.tag.is_state() {
+    if node.tag.is_numbered() {
         below.saturating_add(1)
     } else {
         below

@@ -1,7 +1,7 @@
 ghost use Rattle.std.specs.Prelude.{◌≡◌, ◌≤◌, [], IfOk};
 ghost use Rattle.sc_dev.specs.Memory.{counted, failed, is_next_failing, no_calls};
 
-use sc_types::{NoMemory, Sequence};
+use sc_base::{NoMemory, Sequence};
 use std::alloc::Global;
 use std::marker::Model;
 

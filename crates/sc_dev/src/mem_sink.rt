@@ -7,7 +7,7 @@ ghost use Rattle.sc_dev.specs.Memory.{after_write, no_calls, write_count};
 use crate::calls::Calls;
 use crate::failed::Failed;
 use crate::sink::Sink;
-use sc_types::NoMemory;
+use sc_base::NoMemory;
 use std::alloc::Global;
 use std::marker::Model;
 

@@ -8,7 +8,7 @@ use crate::calls::Calls;
 use crate::failed::Failed;
 use crate::source::Source;
 use crate::unread::Unread;
-use sc_types::NoMemory;
+use sc_base::NoMemory;
 use std::alloc::Global;
 use std::marker::Model;
 

@@ -7,7 +7,7 @@ use crate::failed::Failed;
 use crate::sink::Sink;
 use crate::source::Source;
 use crate::unread::Unread;
-use sc_types::NoMemory;
+use sc_base::NoMemory;
 use std::alloc::Global;
 use std::marker::Model;
 

@@ -1,6 +1,6 @@
 ghost use Rattle.std.specs.Prelude.{◌≡◌, min, length, take, drop, IfOk};
 
-use sc_types::{Bytes, NoMemory, Sequence};
+use sc_base::{Bytes, NoMemory};
 use std::alloc::Global;
 use std::marker::Model;
 
@@ -26,7 +26,7 @@ impl Unread {
         ensures { IfOk result (λ u. u ≡ bytes.now) }
     {
         Ok(Unread {
-            bytes: Sequence::from_slice(alloc, bytes)?,
+            bytes: Bytes::from_slice(alloc, bytes)?,
             at: 0,
         })
     }

@@ -6,7 +6,7 @@ use Rattle.std.proofs.lemmas.Str.Parse.{digits_value_short}
 use Rattle.std.specs.List.{take_while}
 use Rattle.std.specs.Prelude.{IfSome}
 use Rattle.std.specs.Str.Parse.{digits_value}
-use Rattle.sc_types.specs.Text.{is_digit}
+use Rattle.sc_base.specs.Text.{is_digit}
 use Rattle.sc_types.specs.Delays.{are_digits}
 use Rattle.sc_expr.specs.Numbers.{digits_number, short_number}
 use Rattle.sc_expr.proofs.Numbers.{own, all_true}

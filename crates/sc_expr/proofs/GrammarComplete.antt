@@ -2,7 +2,7 @@
 use Rattle.std.proofs.Common.{◌≡◌, ℕ, zero, suc, ◌≤◌, ◌<◌, ◌-◌, ◌==◌, Bool, true, false, not, ◌||◌, if◌then◌else◌, nat_lt, Some, IsTrue, List, [], ◌∷◌, ◌++◌, length, map, codes, bytes_eq, option_map, option_and_then, refl, sym, ap, ◌∙◌, subst, append_assoc, length-append, lt-ltb, ltb-true, ltb-false, le-ltb, arith}
 use Rattle.std.proofs.lemmas.Bool.{and_parts, or_parts, not-true, cond_both, cond-true, cond-false, ne_eqb, eq-eqb}
 use Rattle.sc_types.specs.Expressions.{Spells, looser, two, negated, minus, item, brackets, no_items, listed, len, as_text, active, active_name, yes_word, no_word, number, literal, datum, one_word, payload_of, SpellsItems, last, more, depth, deepest, looseness, repeats, left_of, is_datum, is_one_word, field_text}
-use Rattle.sc_types.specs.Text.{is_plain_name, is_keyword}
+use Rattle.sc_base.specs.Text.{is_plain_name, is_keyword}
 use Rattle.sc_types.specs.declared.expr.EventField.{EventField}
 use Rattle.sc_types.specs.declared.expr.EventField.TheVariants as field
 use Rattle.sc_types.specs.declared.expr.Expr.{Expr}

@@ -4,7 +4,7 @@ use Rattle.std.proofs.lemmas.Bool.{and_from, cond_both, not_from_false, cond-tru
 use Rattle.std.proofs.lemmas.Option.{IfSome_then}
 use Rattle.std.proofs.lemmas.Slice.Eq.{bytes_eq-Decides}
 use Rattle.sc_types.specs.Expressions.{Spells, looser, two, negated, minus, item, brackets, no_items, listed, len, as_text, active, active_name, yes_word, no_word, number, literal, datum, one_word, payload_of, SpellsItems, last, more, depth, looseness, repeats, is_one_word, field_text}
-use Rattle.sc_types.specs.Text.{is_plain_name}
+use Rattle.sc_base.specs.Text.{is_plain_name}
 use Rattle.sc_types.specs.declared.expr.EventField.{EventField}
 use Rattle.sc_types.specs.declared.expr.EventField.TheVariants as field
 use Rattle.sc_types.specs.declared.expr.Expr.{Expr}

@@ -4,7 +4,7 @@ use Rattle.std.proofs.lemmas.List.{take_rest}
 use Rattle.std.specs.Prelude.{option_and_then}
 use Rattle.std.specs.List.{prefix_len, take_while}
 use Rattle.sc_types.specs.Descriptors.{is_white_space}
-use Rattle.sc_types.specs.Text.{is_digit, is_text}
+use Rattle.sc_base.specs.Text.{is_digit, is_text}
 use Rattle.sc_types.specs.Tokens.{Read, bad, op_text, mark_text, op_at, mark_at, read_mark, read_sign, is_word_byte, number_of, negative, run_token, read_token, read_run, read_negative, escape, is_quote, is_plain_byte, before, quoted, read_quoted, first_token, without_white, tokens_step, tokens_up_to, tokens}
 use Rattle.sc_types.specs.declared.expr.Op.{Op}
 use Rattle.sc_types.specs.declared.expr.Op.TheVariants.{Or}

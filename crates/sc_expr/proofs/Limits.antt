@@ -7,7 +7,7 @@ use Rattle.std.proofs.lemmas.List.Elements.{All-nil, All-cons}
 use Rattle.std.proofs.lemmas.List.Folds.{list_all-append}
 use Rattle.std.proofs.lemmas.Str.{IsUtf8-from_ascii, is_utf8-from_IsUtf8}
 use Rattle.std.proofs.lemmas.Str.Ascii.{IsAscii-from_all}
-use Rattle.sc_types.specs.Text.{is_digit, is_text, is_text_byte, is_plain_name}
+use Rattle.sc_base.specs.Text.{is_digit, is_text, is_text_byte, is_plain_name}
 use Rattle.sc_types.specs.Tokens.{Read, bad, op_at, mark_at, read_mark, read_sign, is_word_byte, number_of, positive, run_token, read_token, read_run, is_quote, quoted, read_quoted, first_token, without_white, tokens_step, tokens_up_to, tokens}
 use Rattle.sc_types.specs.Expressions.{is_one_word, has_plain_names, is_natural, fits_step, has_fit_leaves, IsExpr, Spells, looser, two, negated, minus, item, brackets, no_items, listed, len, as_text, active, active_name, yes_word, no_word, number, literal, datum, one_word, payload_of, SpellsItems, last, more, IsExpression}
 use Rattle.sc_types.specs.declared.expr.EventField.{EventField}

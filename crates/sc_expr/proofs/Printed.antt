@@ -2,7 +2,7 @@
 use Rattle.std.proofs.Common.{◌≡◌, ℕ, zero, suc, ◌+◌, ◌<◌, ◌≤◌, ◌^◌, ◌-◌, Bool, true, false, List, [], ◌∷◌, ◌++◌, map, length, ℤ, pos, negsuc, codes, refl, sym, subst, ◌∙◌, arith, decimal, max, append_assoc, zero-lt-suc}
 use Rattle.std.specs.List.{list_all, AllByRecursion}
 use Rattle.std.proofs.lemmas.Bool.{and_parts, ltb-true}
-use Rattle.sc_types.specs.Text.{is_text, is_plain_name, starts_with_letter}
+use Rattle.sc_base.specs.Text.{is_text, is_plain_name, starts_with_letter}
 use Rattle.sc_types.specs.Tokens.{is_word_byte}
 use Rattle.sc_types.specs.Values.{joined}
 use Rattle.sc_types.specs.Expressions.{looseness, left_of, is_one_word, is_datum, has_plain_names, deepest, depth_step, depth, field_text, is_natural, fits_step, has_fit_leaves, IsExpr, expr_step, expr_text, Spells, looser, two, negated, minus, item, brackets, no_items, listed, len, as_text, active, yes_word, no_word, number, literal, datum, one_word, payload_of, SpellsItems, last, more, IsExpression}

@@ -6,7 +6,7 @@ use Rattle.std.proofs.lemmas.Bool.Decides.{nat_tests}
 use Rattle.std.proofs.lemmas.Slice.Eq.{bytes_eq-Decides}
 use Rattle.std.proofs.lemmas.Fmt.{decimal_is_IsNumeral, decimal_by_steps}
 use Rattle.sc_types.specs.Descriptors.{is_white_space}
-use Rattle.sc_types.specs.Text.{is_letter, is_digit, is_text, is_text_byte, starts_with_letter}
+use Rattle.sc_base.specs.Text.{is_letter, is_digit, is_text, is_text_byte, starts_with_letter}
 use Rattle.sc_types.specs.Tokens.{op_text, mark_text, Read, is_word_byte, is_quote, number_of, positive, negative, run_token, read_token, read_quoted, read_sign, bad, before, is_plain_byte, quoted, first_token, tokens, tokens_step}
 use Rattle.sc_types.specs.Values.{escaped}
 use Rattle.sc_types.specs.declared.expr.Op.{Op}

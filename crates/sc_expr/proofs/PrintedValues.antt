@@ -5,7 +5,7 @@ use Rattle.std.specs.List.{list_all, AllByRecursion}
 use Rattle.std.proofs.lemmas.Bool.{and_parts, and_from, not_from_false, ltb-true, cond-true}
 use Rattle.std.proofs.lemmas.List.{get_or_push, length_push}
 use Rattle.sc_types.specs.Descriptors.{is_white_space}
-use Rattle.sc_types.specs.Text.{is_text, is_int}
+use Rattle.sc_base.specs.Text.{is_text, is_int}
 use Rattle.sc_types.specs.Tokens.{is_word_byte, tokens}
 use Rattle.sc_types.specs.Values.{is_item, fits, escaped, truth_text, joined, value_step, value_text, item_of, further_items, items_of, listed, value_of, is_trimmed, literal_value}
 use Rattle.sc_types.specs.declared.token.Mark.TheVariants.{OpenSquare, CloseSquare, Comma}

@@ -3,7 +3,7 @@
 use Rattle.std.specs.Prelude.{ℕ, zero, suc, ◌-◌, ◌==◌, Bool, true, false, nat_le, nat_lt, if◌then◌else◌, Option, Some, None, option_map, option_and_then, List, [], ◌∷◌, length, find, codes}
 use Rattle.std.specs.Str.{bytes_eq}
 use Rattle.sc_types.specs.Expressions.{depth, looseness, repeats, field_text}
-use Rattle.sc_types.specs.Text.{is_plain_name}
+use Rattle.sc_base.specs.Text.{is_plain_name}
 use Rattle.sc_types.specs.Tokens.{mark_text}
 use Rattle.sc_types.specs.declared.expr.EventField.{EventField}
 use Rattle.sc_types.specs.declared.expr.EventField.TheVariants as field

@@ -1,6 +1,6 @@
 ghost use Rattle.std.specs.Prelude.{◌≡◌, ◌<◌, ◌≤◌, ◌^◌, length, IfSome, IsTrue};
 ghost use Rattle.std.specs.List.{prefix_len};
-ghost use Rattle.sc_types.specs.Text.{is_digit};
+ghost use Rattle.sc_base.specs.Text.{is_digit};
 ghost use Rattle.sc_types.specs.Delays.{are_digits, delay_of, limited, milliseconds, seconds, seconds_of, whole_seconds, fraction_seconds};
 ghost use Rattle.sc_expr.specs.Numbers.{short_number};
 

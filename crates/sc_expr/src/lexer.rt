@@ -1,7 +1,7 @@
 ghost use Rattle.std.specs.Prelude.{◌≡◌, ◌<◌, ◌==◌, ◌&&◌, [], ◌∷◌, length, drop, slice_index, option_map, IfOk, OnErr, MatchOption};
 ghost use Rattle.std.specs.List.{take_while, prefix_len};
 ghost use Rattle.sc_types.specs.Descriptors.{is_white_space};
-ghost use Rattle.sc_types.specs.Text.{is_digit};
+ghost use Rattle.sc_base.specs.Text.{is_digit};
 ghost use Rattle.sc_types.specs.Tokens.{tokens, op_text, mark_text, op_at, mark_at, bad, read_sign, is_word_byte, run_token, read_token, read_run, read_negative, escape, is_quote, is_plain_byte, quoted, read_quoted, first_token, without_white};
 
 use crate::number::{negative, positive};

@@ -4,8 +4,8 @@ ghost use Rattle.sc_expr.specs.Literals.{single, is_open, is_close, first_item, 
 
 use crate::fault::ExprFault;
 use crate::lexer::{Lexer, is_white_space};
-use crate::writer::put;
-use sc_types::{Bytes, Mark, NoMemory, Sequence, Token, Value};
+use sc_base::{Bytes, NoMemory, Sequence, TextWriter};
+use sc_types::{Mark, Token, Value};
 use std::alloc::Global;
 
 /// The most items of a list.
@@ -204,74 +204,74 @@ pub fn print_value(alloc: Global, value: &Value) -> Result<Bytes, NoMemory>
     ensures text { IfOk result (λ text. text ≡ value_text value.now) }
     ensures read_back { IsTrue (fits value.now) → IfOk result (λ text. literal_value text ≡ Some value.now) }
 {
-    let mut out = Vec::new(alloc);
-    put_value(alloc, &mut out, value)?;
-    Sequence::from_slice(alloc, &out)
+    let mut out = TextWriter::new(alloc);
+    put_value(&mut out, value)?;
+    Ok(out.into_bytes())
 }
 
 /// Puts a value as its literal behind what is there.
 #[cycle(print)]
 #[tactic(auto, using(crate::proofs::Literals::texts))]
-pub fn put_value(alloc: Global, out: &mut Vec<u8>, value: &Value) -> Result<(), NoMemory>
-    ensures { OnOk result (out.new.items ≡ out.old.items ++ value_text value.now) }
+pub fn put_value(out: &mut TextWriter, value: &Value) -> Result<(), NoMemory>
+    ensures { OnOk result (out.new ≡ out.old ++ value_text value.now) }
 {
     match value {
         Value::Bool(truth) => put_truth(out, *truth),
-        Value::Int(number) => put(out, number.to_string(alloc)?.as_bytes()),
+        Value::Int(number) => out.signed(*number),
         Value::Text(text) => put_text(out, text.slice()),
-        Value::List(items) => put_values(alloc, out, items.slice()),
+        Value::List(items) => put_values(out, items.slice()),
     }
 }
 
 #[cycle(print)]
 #[tactic(auto, using(crate::proofs::Literals::texts))]
-fn put_values(alloc: Global, out: &mut Vec<u8>, items: &[Value]) -> Result<(), NoMemory>
-    ensures { OnOk result (out.new.items ≡ out.old.items ++ value_text (Value.List items.now)) }
+fn put_values(out: &mut TextWriter, items: &[Value]) -> Result<(), NoMemory>
+    ensures { OnOk result (out.new ≡ out.old ++ value_text (Value.List items.now)) }
 {
-    put(out, b"[")?;
+    out.text("[")?;
     for i in 0..items.len() {
         put_comma(out, i)?;
-        put_value(alloc, out, &items[i])?;
+        put_value(out, &items[i])?;
     }
-    put(out, b"]")
+    out.text("]")
 }
 
 /// The comma before an item that is not the first.
-fn put_comma(out: &mut Vec<u8>, place: usize) -> Result<(), NoMemory>
-    ensures { OnOk result (out.new.items ≡ out.old.items ++ comma place) }
+fn put_comma(out: &mut TextWriter, place: usize) -> Result<(), NoMemory>
+    ensures { OnOk result (out.new ≡ out.old ++ comma place) }
 {
-    if place > 0 { put(out, b",") } else { Ok(()) }
+    if place > 0 { out.text(",") } else { Ok(()) }
 }
 
-pub(crate) fn put_truth(out: &mut Vec<u8>, truth: bool) -> Result<(), NoMemory>
-    ensures { OnOk result (out.new.items ≡ out.old.items ++ truth_text truth) }
+pub(crate) fn put_truth(out: &mut TextWriter, truth: bool) -> Result<(), NoMemory>
+    ensures { OnOk result (out.new ≡ out.old ++ truth_text truth) }
 {
     if truth {
-        put(out, b"true")
+        out.text("true")
     } else {
-        put(out, b"false")
+        out.text("false")
     }
 }
 
 /// Puts a text as its literal behind what is there.
-pub fn put_text(out: &mut Vec<u8>, text: &[u8]) -> Result<(), NoMemory>
-    ensures { OnOk result (out.new.items ≡ out.old.items ++ text_literal text.now) }
+pub fn put_text(out: &mut TextWriter, text: &[u8]) -> Result<(), NoMemory>
+    ensures { OnOk result (out.new ≡ out.old ++ text_literal text.now) }
 {
-    put(out, b"'")?;
+    out.text("'")?;
     for byte in text {
         put_escaped(out, *byte)?;
     }
-    put(out, b"'")
+    out.text("'")
 }
 
-fn put_escaped(out: &mut Vec<u8>, byte: u8) -> Result<(), NoMemory>
-    ensures { OnOk result (out.new.items ≡ out.old.items ++ escaped byte) }
+fn put_escaped(out: &mut TextWriter, byte: u8) -> Result<(), NoMemory>
+    ensures { OnOk result (out.new ≡ out.old ++ escaped byte) }
 {
     match byte {
-        b'\\' => put(out, b"\\\\"),
-        b'\'' => put(out, b"\\'"),
-        b'\n' => put(out, b"\\n"),
-        b'\t' => put(out, b"\\t"),
-        _ => put(out, &[byte]),
+        b'\\' => out.text("\\\\"),
+        b'\'' => out.text("\\'"),
+        b'\n' => out.text("\\n"),
+        b'\t' => out.text("\\t"),
+        _ => out.byte(byte),
     }
 }

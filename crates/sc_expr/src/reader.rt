@@ -1,7 +1,7 @@
 ghost use Rattle.std.specs.Prelude.{◌≡◌, ◌≤◌, ◌==◌, true, false, codes, nat_lt, drop, length, [], ◌∷◌, ◌↔◌, IsTrue, IfOk, OnOk, MatchOption};
 ghost use Rattle.std.specs.Str.{bytes_eq};
 ghost use Rattle.sc_types.specs.Expressions.{IsExpr, IsExpression, IsReading, depth, looseness, repeats};
-ghost use Rattle.sc_types.specs.Text.{IsPlainName};
+ghost use Rattle.sc_base.specs.Text.{IsPlainName};
 ghost use Rattle.sc_types.specs.Tokens.{tokens};
 ghost use Rattle.sc_types.specs.declared.token.Mark.TheVariants.{CloseSquare, Comma};
 ghost use Rattle.sc_types.specs.declared.token.Token.TheVariants.{Mark as Sign};

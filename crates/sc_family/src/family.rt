@@ -6,7 +6,7 @@ ghost use Rattle.sc_family.specs.Links.{link_for, is_live, cut_off};
 use crate::chain::{end_of, hash_of, place_in_chain, set_end};
 use crate::link::Link;
 use indexmap::IndexMap;
-use sc_types::NoMemory;
+use sc_base::NoMemory;
 use std::alloc::Global;
 use std::marker::Model;
 

@@ -2,7 +2,7 @@ ghost use Rattle.std.specs.Prelude.{◌≡◌, ◌<◌, ◌^◌, ◌++◌, lengt
 ghost use Rattle.sc_frame.specs.Fields.{number_field, int_field, bytes_field};
 
 use byteorder::{BigEndian, ByteOrder};
-use sc_types::NoMemory;
+use sc_base::NoMemory;
 
 /// Appends a number as 2 bytes. Out of memory nothing is appended, as by the other calls.
 #[tactic(auto, unfolding(crate::specs::Fields::number_field))]

@@ -16,13 +16,13 @@ use Rattle.sc_types.specs.declared.history.Entry.{Entry}
 use Rattle.sc_types.specs.declared.host.HostImage.{HostImage}
 use Rattle.sc_types.specs.declared.host.SessionImage.{SessionImage}
 use Rattle.sc_types.specs.declared.session.Cue.{Cue}
-use Rattle.sc_types.specs.declared.session.Cue.TheVariants.{Fresh, Resume, External}
+use Rattle.sc_types.specs.declared.session.Cue.TheVariants.{Fresh, Resume, Cancel, External}
 use Rattle.sc_types.specs.declared.session.Phase.{Phase}
 use Rattle.sc_types.specs.declared.session.Phase.TheVariants as phase
 use Rattle.sc_types.specs.declared.value.Value.{Value}
 use Rattle.sc_law.specs.Host.{Answer, answer, chart_named, posted_event, cue_of, name_of, queue_left, queue_of_phase}
 use Rattle.sc_law.specs.History.{Tells, IsLegal, consumed_in, consumed, is_posted, is_queued, gives, GivenBefore}
-use Rattle.sc_law.specs.Turn.{turn}
+use Rattle.sc_law.specs.Flat.Turn.{turn}
 use Rattle.sc_law.proofs.Changes.{Change, refuses, installs, starts, queues, turns, change_of}
 use Rattle.sc_law.proofs.Found.{is_at}
 use Rattle.sc_law.proofs.Once.{external_front}
@@ -97,6 +97,7 @@ phase_given P (phase.Ended how) queued h = tt
 left_given : (P : Event → Type 0) (cue : Cue) (queued : List Event) → AllByRecursion P queued → AllByRecursion P (queue_left cue queued)
 left_given P Fresh queued h = h
 left_given P Resume queued h = h
+left_given P Cancel queued h = h
 left_given P (External e) queued h = all_rest P queued h
 
 -- what an entry leaves waiting was given before it, or by it
@@ -142,6 +143,7 @@ cue_given : (done : List Entry) (session : List ℕ) (s : SessionImage) (cue : C
 unfolding IsGivenIn
 cue_given done session s Fresh named has h = tt
 cue_given done session s Resume named has h = tt
+cue_given done session s Cancel named has h = tt
 cue_given done session s (External e) named has h =
     let front = external_front s.state.phase s.state.internal s.queued e has in
     let first = (subst (λ q. AllByRecursion (WasGiven done s.state.session) q) front.1 h).0 in

@@ -1,13 +1,13 @@
 -- No chart of this version has a history, so nothing goes by what histories recorded.
 use Rattle.std.proofs.Common.{◌≡◌, ◌≢◌, ℕ, List, [], ◌∷◌, refl, sym, ap}
 use Rattle.sc_types.specs.declared.chart.Chart.{Chart}
-use Rattle.sc_law.specs.declared.tree.Transition.{Transition}
-use Rattle.sc_law.specs.Sets.{Histories, exit_set}
-use Rattle.sc_law.specs.Selection.{keep, kept_from}
-use Rattle.sc_law.specs.declared.entry.EntryTriple.{EntryTriple}
-use Rattle.sc_law.specs.Entry.{no_entry, entry_of, entry_from, entry}
-use Rattle.sc_law.specs.Microstep.{exit_states, enter, run_contents, microstep}
-use Rattle.sc_law.specs.declared.run_state.RunState.{RunState}
+use Rattle.sc_law.specs.declared.flat.transition.Transition.{Transition}
+use Rattle.sc_law.specs.Flat.Sets.{Histories, exit_set}
+use Rattle.sc_law.specs.Flat.Selection.{keep, kept_from}
+use Rattle.sc_law.specs.declared.flat.entry.EntryTriple.{EntryTriple}
+use Rattle.sc_law.specs.Flat.Entry.{no_entry, entry_of, entry_from, entry}
+use Rattle.sc_law.specs.Flat.Microstep.{exit_states, enter, run_contents, microstep}
+use Rattle.sc_law.specs.declared.flat.run_state.RunState.{RunState}
 
 pub kept_from_any : (c : Chart) (h : Histories) (configuration : List ℕ) (kept ts : List Transition)
     → kept_from c [] configuration kept ts ≡ kept_from c h configuration kept ts

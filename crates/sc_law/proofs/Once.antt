@@ -12,14 +12,14 @@ use Rattle.sc_types.specs.declared.history.Entry.{Entry}
 use Rattle.sc_types.specs.declared.host.HostImage.{HostImage}
 use Rattle.sc_types.specs.declared.host.SessionImage.{SessionImage}
 use Rattle.sc_types.specs.declared.session.Cue.{Cue}
-use Rattle.sc_types.specs.declared.session.Cue.TheVariants.{Fresh, Resume, External}
+use Rattle.sc_types.specs.declared.session.Cue.TheVariants.{Fresh, Resume, Cancel, External}
 use Rattle.sc_types.specs.declared.session.Phase.{Phase}
 use Rattle.sc_types.specs.declared.session.Phase.TheVariants as phase
 use Rattle.sc_types.specs.declared.value.Value.{Value}
-use Rattle.sc_law.specs.declared.run_state.TurnResult.{TurnResult}
+use Rattle.sc_law.specs.declared.flat.run_state.TurnResult.{TurnResult}
 use Rattle.sc_law.specs.Host.{Answer, answer, empty_host, chart_named, with_session, queue, posted_event, cue_in, cue_of, name_of, queue_left, queue_of_phase, after_turn}
 use Rattle.sc_law.specs.History.{Tells, IsLegal, consumed_in, consumed, is_number, consumes}
-use Rattle.sc_law.specs.Turn.{turn}
+use Rattle.sc_law.specs.Flat.Turn.{turn}
 use Rattle.sc_law.proofs.Changes.{Change, refuses, installs, starts, queues, turns, change_of, with_fresh}
 use Rattle.sc_law.proofs.Found.{is_at}
 
@@ -84,6 +84,7 @@ queue_few n done g place s name pairs there few =
 cue_number : ℕ → Cue → ℕ
 cue_number n Fresh = 0
 cue_number n Resume = 0
+cue_number n Cancel = 0
 cue_number n (External e) = cond (e.number == n) 1 0
 
 pub external_front : (p : Phase) (internal queued : List Event) (e : Event) → cue_in p internal queued ≡ Some (External e) → (rest : List Event) × (queued ≡ e ∷ rest)
@@ -102,6 +103,7 @@ left_fewer : (n : ℕ) (p : Phase) (internal queued : List Event) (cue : Cue) �
 unfolding cue_number
 left_fewer n p internal queued Fresh h = omega arith
 left_fewer n p internal queued Resume h = omega arith
+left_fewer n p internal queued Cancel h = omega arith
 left_fewer n p internal queued (External e) h =
     let front = external_front p internal queued e h in
     let first : in_queue n (e ∷ front.0) ≡ cond (e.number == n) 1 0 + in_queue n front.0 = sum_by-cons (λ (x : Event). cond (x.number == n) 1 0) e front.0 in
@@ -111,6 +113,7 @@ taken_cue : (n : ℕ) (session : List ℕ) (cue : Cue) → cond (is_number n (co
 unfolding cue_number
 taken_cue n session Fresh = refl
 taken_cue n session Resume = refl
+taken_cue n session Cancel = refl
 taken_cue n session (External e) = refl
 
 step_few : (n done : ℕ) (g : HostImage) (place : ℕ) (s : SessionImage) (cue : Cue) (t : TurnResult) → slice_get g.sessions place ≡ Some s → cue_of s ≡ Some cue

@@ -13,16 +13,16 @@ use Rattle.sc_types.specs.declared.event.Event.{Event}
 use Rattle.sc_types.specs.declared.host.HostImage.{HostImage}
 use Rattle.sc_types.specs.declared.host.SessionImage.{SessionImage}
 use Rattle.sc_types.specs.declared.session.Cue.{Cue}
-use Rattle.sc_types.specs.declared.session.Cue.TheVariants.{Fresh, Resume, External}
+use Rattle.sc_types.specs.declared.session.Cue.TheVariants.{Fresh, Resume, Cancel, External}
 use Rattle.sc_types.specs.declared.session.Phase.{Phase}
 use Rattle.sc_types.specs.declared.session.Phase.TheVariants as phase
 use Rattle.sc_types.specs.declared.session.SessionState.{SessionState}
-use Rattle.sc_law.specs.declared.run_state.RunState.{RunState}
+use Rattle.sc_law.specs.declared.flat.run_state.RunState.{RunState}
 use Rattle.sc_law.specs.Host.{Answer, answer, chart_named, is_session_named, session_named, fresh_session, cue_in, cue_of, queue_left, queue_of_phase, after_turn, posted_event, step_cue, step_in, step_found, ready}
 use Rattle.sc_law.specs.Run.{is_accepted_step}
-use Rattle.sc_law.specs.Entry.{first_entry}
-use Rattle.sc_law.specs.Microstep.{enter}
-use Rattle.sc_law.specs.Turn.{after_rest, after, turn, settle, round_limit, begin, take_event}
+use Rattle.sc_law.specs.Flat.Entry.{first_entry}
+use Rattle.sc_law.specs.Flat.Microstep.{enter}
+use Rattle.sc_law.specs.Flat.Turn.{after_rest, after, turn, settle, round_limit, begin, take_event}
 use Rattle.sc_law.proofs.Changes.{Change, IsLive, refuses, installs, starts, queues, turns}
 use Rattle.sc_law.proofs.Found.{is_at}
 use Rattle.sc_law.proofs.Once.{sum_replaced}
@@ -90,12 +90,15 @@ pending g = sum_by weight g.sessions
 cue_weighs : (p : Phase) (internal queued : List Event) (cue : Cue) → cue_in p internal queued ≡ Some cue → length (queue_left cue queued) + 1 ≤ weight_in p internal queued
 cue_weighs phase.Fresh internal queued Fresh h = omega arith
 cue_weighs phase.Fresh internal queued Resume h = absurd (cc)
+cue_weighs phase.Fresh internal queued Cancel h = absurd (cc)
 cue_weighs phase.Fresh internal queued (External e) h = absurd (cc)
 cue_weighs phase.Running (i ∷ is) queued Resume h = omega arith
 cue_weighs phase.Running (i ∷ is) queued Fresh h = absurd (cc)
+cue_weighs phase.Running (i ∷ is) queued Cancel h = absurd (cc)
 cue_weighs phase.Running (i ∷ is) queued (External e) h = absurd (cc)
 cue_weighs phase.Running [] (q ∷ qs) (External e) h = omega arith
 cue_weighs phase.Running [] (q ∷ qs) Fresh h = absurd (cc)
+cue_weighs phase.Running [] (q ∷ qs) Cancel h = absurd (cc)
 cue_weighs phase.Running [] (q ∷ qs) Resume h = absurd (cc)
 cue_weighs phase.Running [] [] cue h = absurd (cc)
 cue_weighs (phase.Ended how) internal queued cue h = absurd (cc)
@@ -113,6 +116,7 @@ after_past true r = elim r.stopped as (λ b. IsPast (after_rest b r).phase) [ tr
 turn_past : (c : Chart) (before : SessionState) (cue : Cue) → IsPast (turn c before cue).after.phase
 turn_past c before Fresh = let settled = settle c (round_limit c) (enter c (first_entry c) (begin before)) in after_past settled.0 settled.1
 turn_past c before Resume = let settled = settle c (round_limit c) (begin before) in after_past settled.0 settled.1
+turn_past c before Cancel = tt
 turn_past c before (External e) = let settled = settle c (round_limit c - 1) (take_event c e (begin before)) in after_past settled.0 settled.1
 
 left_weighs : (p : Phase) (internal queued : List Event) → IsPast p → (IsLive p → internal ≡ []) → weight_in p internal (queue_of_phase p queued) ≤ length queued

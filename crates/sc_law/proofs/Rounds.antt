@@ -2,8 +2,8 @@
 use Rattle.std.proofs.Common.{◌≡◌, ℕ, zero, suc, ◌+◌, ◌-◌, ◌<◌, true, false, Option, Some, None, is_some, refl, ap, ◌∙◌, arith}
 use Rattle.std.specs.Option.{option_map_or}
 use Rattle.sc_types.specs.declared.chart.Chart.{Chart}
-use Rattle.sc_law.specs.declared.run_state.RunState.{RunState}
-use Rattle.sc_law.specs.Turn.{next_round, start_invokes, settle}
+use Rattle.sc_law.specs.declared.flat.run_state.RunState.{RunState}
+use Rattle.sc_law.specs.Flat.Turn.{next_round, start_invokes, settle}
 
 -- where no round is left to take the run rests
 pub settle_rests : (c : Chart) (n : ℕ) (r : RunState) → next_round c r ≡ None → settle c n r ≡ (true, start_invokes r)

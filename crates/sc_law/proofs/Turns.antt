@@ -7,17 +7,18 @@ use Rattle.sc_types.specs.declared.chart.Tag.{Tag}
 use Rattle.sc_types.specs.declared.chart.Tag.TheVariants as tag
 use Rattle.sc_types.specs.declared.event.Event.{Event}
 use Rattle.sc_types.specs.declared.session.Cue.{Cue}
-use Rattle.sc_types.specs.declared.session.Cue.TheVariants.{Fresh, Resume, External}
+use Rattle.sc_types.specs.declared.session.Cue.TheVariants.{Fresh, Resume, Cancel, External}
 use Rattle.sc_types.specs.declared.session.SessionState.{SessionState}
-use Rattle.sc_law.specs.declared.run_state.RunState.{RunState}
-use Rattle.sc_law.specs.declared.tree.Transition as row
-use Rattle.sc_law.specs.Tree.{kids, kids_of}
-use Rattle.sc_law.specs.Content.{run_element, run_block}
-use Rattle.sc_law.specs.Entry.{first_entry, entry}
-use Rattle.sc_law.specs.Microstep.{exit_states, is_onentry, run_blocks, joined, enter_state, enter_states, enter, run_contents, microstep}
-use Rattle.sc_law.specs.Selection.{select}
-use Rattle.sc_law.specs.Sets.{transition_node, exit_set}
-use Rattle.sc_law.specs.Turn.{bind, take_event, internal_round, eventless_round, next_round, start_invokes, settle, round_limit, begin, after_rest, after, turn}
+use Rattle.sc_law.specs.declared.flat.run_state.RunState.{RunState}
+use Rattle.sc_law.specs.declared.flat.transition.Transition as row
+use Rattle.sc_law.specs.Nodes.{kids}
+use Rattle.sc_law.specs.Tree.{kids_of}
+use Rattle.sc_law.specs.Flat.Content.{run_element, run_block}
+use Rattle.sc_law.specs.Flat.Entry.{first_entry, entry}
+use Rattle.sc_law.specs.Flat.Microstep.{exit_states, is_onentry, run_blocks, joined, enter_state, enter_states, enter, run_contents, microstep}
+use Rattle.sc_law.specs.Flat.Selection.{select}
+use Rattle.sc_law.specs.Flat.Sets.{transition_node, exit_set}
+use Rattle.sc_law.specs.Flat.Turn.{bind, take_event, internal_round, eventless_round, next_round, start_invokes, settle, round_limit, begin, after_rest, after, turn}
 use Rattle.sc_law.proofs.Changes.{IsLive}
 
 -- nothing in a turn changes the name of the session
@@ -100,6 +101,7 @@ turn-session c before Fresh =
 turn-session c before Resume =
     let settled = settle c (round_limit c) (begin before) in
     after_keeps settled.0 settled.1 ∙ settle_keeps c (round_limit c) (begin before)
+turn-session c before Cancel = refl
 turn-session c before (External e) =
     let settled = settle c (round_limit c - 1) (take_event c e (begin before)) in
     after_keeps settled.0 settled.1 ∙ settle_keeps c (round_limit c - 1) (take_event c e (begin before)) ∙ event_keeps c e (begin before)
@@ -145,5 +147,6 @@ turn_leaves_none c before Fresh live =
     let settled = settle c (round_limit c) (enter c (first_entry c) (begin before)) in finish_empty settled.0 settled.1 (settle_rests_empty c (round_limit c) (enter c (first_entry c) (begin before))) live
 turn_leaves_none c before Resume live =
     let settled = settle c (round_limit c) (begin before) in finish_empty settled.0 settled.1 (settle_rests_empty c (round_limit c) (begin before)) live
+turn_leaves_none c before Cancel live = absurd live
 turn_leaves_none c before (External e) live =
     let settled = settle c (round_limit c - 1) (take_event c e (begin before)) in finish_empty settled.0 settled.1 (settle_rests_empty c (round_limit c - 1) (take_event c e (begin before))) live

@@ -3,14 +3,14 @@ use Rattle.std.specs.Prelude.{ℕ, ◌≡◌, ◌≤◌, ◌==◌, ◌&&◌, ◌
 use Rattle.std.specs.List.{list_any}
 use Rattle.std.specs.Str.{bytes_eq}
 use Rattle.sc_types.specs.declared.command.Command.{Command}
-use Rattle.sc_types.specs.declared.command.Command.TheVariants.{Install, Start, Post, Step}
+use Rattle.sc_types.specs.declared.command.Command.TheVariants.{Post, Step}
 use Rattle.sc_types.specs.declared.command.Reply.{Reply}
-use Rattle.sc_types.specs.declared.command.Reply.TheVariants.{Installed, Started, Posted, Stepped, Refused}
+use Rattle.sc_types.specs.declared.command.Reply.TheVariants.{Posted, Stepped}
 use Rattle.sc_types.specs.declared.history.Delivery.{Delivery}
 use Rattle.sc_types.specs.declared.history.Delivery.TheVariants.{Queued}
 use Rattle.sc_types.specs.declared.history.Entry.{Entry}
 use Rattle.sc_types.specs.declared.host.HostImage.{HostImage}
-use Rattle.sc_types.specs.declared.session.CueName.TheVariants.{Fresh, Resume, External}
+use Rattle.sc_types.specs.declared.session.CueName.TheVariants.{External}
 use Rattle.sc_law.specs.Host.{Answer, answer}
 
 -- an entry tells what the host answered
@@ -33,15 +33,7 @@ replay g (e ∷ es) = replay (answer g e.command).host es
 
 abbrev pub consumed_in : Command → Reply → Option (ℕ × List ℕ)
 consumed_in (Step session) (Stepped (External n)) = Some (n, session)
-consumed_in (Step session) (Stepped Fresh) = None
-consumed_in (Step session) (Stepped Resume) = None
-consumed_in (Step session) Installed = None
-consumed_in (Step session) Started = None
-consumed_in (Step session) (Posted n) = None
-consumed_in (Step session) (Refused why) = None
-consumed_in (Install name text) reply = None
-consumed_in (Start session chart) reply = None
-consumed_in (Post session name pairs) reply = None
+consumed_in c reply = None
 
 abbrev pub consumed : Entry → Option (ℕ × List ℕ)
 consumed e = consumed_in e.command e.reply
@@ -57,13 +49,7 @@ consumes n e = is_number n (consumed e)
 
 abbrev pub is_posted : ℕ × List ℕ → Command → Reply → Bool
 is_posted c (Post session name pairs) (Posted n) = n == c.0 && bytes_eq session c.1
-is_posted c (Post session name pairs) Installed = false
-is_posted c (Post session name pairs) Started = false
-is_posted c (Post session name pairs) (Stepped cue) = false
-is_posted c (Post session name pairs) (Refused why) = false
-is_posted c (Install name text) reply = false
-is_posted c (Start session chart) reply = false
-is_posted c (Step session) reply = false
+is_posted c command reply = false
 
 abbrev pub is_queued : ℕ × List ℕ → Delivery → Bool
 is_queued c (Queued n session) = n == c.0 && bytes_eq session c.1

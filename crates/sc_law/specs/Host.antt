@@ -22,16 +22,16 @@ use Rattle.sc_types.specs.declared.host.ChartImage.{ChartImage}
 use Rattle.sc_types.specs.declared.host.HostImage.{HostImage}
 use Rattle.sc_types.specs.declared.host.SessionImage.{SessionImage}
 use Rattle.sc_types.specs.declared.session.Cue.{Cue}
-use Rattle.sc_types.specs.declared.session.Cue.TheVariants.{Fresh, Resume, External}
+use Rattle.sc_types.specs.declared.session.Cue.TheVariants.{Fresh, Resume, Cancel, External}
 use Rattle.sc_types.specs.declared.session.CueName.{CueName}
 use Rattle.sc_types.specs.declared.session.CueName.TheVariants as cue_name
 use Rattle.sc_types.specs.declared.session.Phase.{Phase}
 use Rattle.sc_types.specs.declared.session.Phase.TheVariants as phase
 use Rattle.sc_types.specs.declared.session.SessionState.{SessionState}
 use Rattle.sc_types.specs.declared.value.Value.{Value}
-use Rattle.sc_law.specs.declared.run_state.TurnResult.{TurnResult}
+use Rattle.sc_law.specs.declared.flat.run_state.TurnResult.{TurnResult}
 use Rattle.sc_law.specs.FlatCharts.{flat_chart_of}
-use Rattle.sc_law.specs.Turn.{turn}
+use Rattle.sc_law.specs.Flat.Turn.{turn}
 
 -- what the host answers: itself after the command, the reply, what was logged, and what became of each effect
 pub record Answer : Type 0 where
@@ -195,13 +195,13 @@ cue_of s = cue_in s.state.phase s.state.internal s.queued
 abbrev pub name_of : Cue → CueName
 name_of Fresh = cue_name.Fresh
 name_of Resume = cue_name.Resume
+name_of Cancel = cue_name.Cancel
 name_of (External e) = cue_name.External e.number
 
 -- an external event leaves the queue as it becomes the cue
 abbrev pub queue_left : Cue → List Event → List Event
-queue_left Fresh queued = queued
-queue_left Resume queued = queued
 queue_left (External e) queued = drop 1 queued
+queue_left cue queued = queued
 
 -- a session that has ended loses its queue
 abbrev pub queue_of_phase : Phase → List Event → List Event

@@ -1,48 +1,26 @@
 -- Which charts are legal, and the first fault of one that is not. Each fault is a test of the element at a path. SCXML
 -- 3.2 to 3.14 and chapters 4 to 6 say what stands where; the numbers, the limits and what is marked so are this host's
 -- own rule.
-use Rattle.std.specs.Prelude.{ℕ, zero, suc, ◌-◌, ◌==◌, Bool, true, false, not, ◌&&◌, ◌||◌, nat_le, nat_lt, if◌then◌else◌, is_some, is_none, Option, None, Some, option_map, option_and_then, unwrap_or, List, [], ◌∷◌, length, take, find, filter, slice_index, codes}
+use Rattle.std.specs.Prelude.{ℕ, zero, suc, ◌-◌, ◌==◌, Bool, true, false, not, ◌&&◌, ◌||◌, nat_le, nat_lt, if◌then◌else◌, is_none, Option, None, Some, option_map, List, [], ◌∷◌, length, take, find, filter, slice_index, codes}
 use Rattle.std.specs.List.{list_all, list_any, filter_map}
 use Rattle.std.specs.Option.{option_map_or}
-use Rattle.std.specs.Str.{bytes_eq}
 use Rattle.std.specs.Str.Parse.{digits_value}
 use Rattle.sc_types.specs.ChartTexts.{fault}
-use Rattle.sc_types.specs.Elements.{attribute_text, is_state}
+use Rattle.sc_types.specs.Elements.{is_numbered}
 use Rattle.sc_types.specs.declared.attribute.Attribute.{Attribute}
 use Rattle.sc_types.specs.declared.attribute.Attribute.TheVariants as attribute
 use Rattle.sc_types.specs.declared.chart.Chart.{Chart}
 use Rattle.sc_types.specs.declared.chart.ChartFault.{ChartFault}
 use Rattle.sc_types.specs.declared.chart.Member.{Member}
 use Rattle.sc_types.specs.declared.chart.Node.{Node}
-use Rattle.sc_types.specs.declared.chart.Node.TheOpen.{Node-F}
-use Rattle.sc_types.specs.declared.chart.Node.TheFolds.{fold-Node}
 use Rattle.sc_types.specs.declared.chart.Tag.{Tag}
 use Rattle.sc_types.specs.declared.chart.Tag.TheVariants as tag
 use Rattle.sc_types.specs.declared.expr.Expr.{Expr}
 use Rattle.sc_types.specs.declared.expr.Expr.TheVariants.{Active}
-use Rattle.sc_law.specs.Tree.{Path, tag_of, has_states, is_atomic_element, kids, paths_of_kids, node_at, leads_on, member, plain_text, words_of, code_of}
+use Rattle.sc_law.specs.Nodes.{Path, elements, element, is_root, parent, is_same, kids, leads_on, tag_of, is_tag, given, has, words_at, text_at, is_text_at, code_of}
+use Rattle.sc_law.specs.Tree.{has_states, is_atomic_element}
 
 -- elements
-
--- the path of an element and those of the elements below it
-abbrev pub elements_step : Node-F (Path → List Path) → Path → List Path
-elements_step n path = path ∷ paths_of_kids path 0 n.kids
-
-unfoldable pub elements_from : Node → Path → List Path
-elements_from n = fold-Node (Path → List Path) elements_step n
-
--- the paths of all elements, in document order
-abbrev pub elements : Chart → List Path
-elements c = elements_from c.root []
-
-abbrev pub element : Chart → Path → Node
-element c path = unwrap_or (node_at c.root path) c.root
-
-abbrev pub is_root : Path → Bool
-is_root path = length path == 0
-
-abbrev pub parent : Path → Path
-parent path = take (length path - 1) path
 
 -- the place of an element among the child elements of its parent
 abbrev pub own_place : Path → ℕ
@@ -52,9 +30,6 @@ own_place path = slice_index path (length path - 1)
 abbrev pub earlier : Chart → Path → List Node
 earlier c path = take (own_place path) (kids (element c (parent path)))
 
-abbrev pub is_same : Path → Path → Bool
-is_same = bytes_eq
-
 -- tags
 
 abbrev pub is_state_or_parallel : Tag → Bool
@@ -62,53 +37,8 @@ is_state_or_parallel tag.State = true
 is_state_or_parallel tag.Parallel = true
 is_state_or_parallel t = false
 
-abbrev pub is_tag : Tag → Tag → Bool
-is_tag tag.Scxml tag.Scxml = true
-is_tag tag.State tag.State = true
-is_tag tag.Parallel tag.Parallel = true
-is_tag tag.Final tag.Final = true
-is_tag tag.History tag.History = true
-is_tag tag.Initial tag.Initial = true
-is_tag tag.Transition tag.Transition = true
-is_tag tag.OnEntry tag.OnEntry = true
-is_tag tag.OnExit tag.OnExit = true
-is_tag tag.Finalize tag.Finalize = true
-is_tag tag.DataModel tag.DataModel = true
-is_tag tag.DataItem tag.DataItem = true
-is_tag tag.DoneData tag.DoneData = true
-is_tag tag.Content tag.Content = true
-is_tag tag.Param tag.Param = true
-is_tag tag.Invoke tag.Invoke = true
-is_tag tag.Raise tag.Raise = true
-is_tag tag.If tag.If = true
-is_tag tag.ElseIf tag.ElseIf = true
-is_tag tag.Else tag.Else = true
-is_tag tag.ForEach tag.ForEach = true
-is_tag tag.Log tag.Log = true
-is_tag tag.Assign tag.Assign = true
-is_tag tag.Send tag.Send = true
-is_tag tag.Cancel tag.Cancel = true
-is_tag s t = false
-
 abbrev pub has_kid : Tag → Node → Bool
 has_kid t n = list_any (λ kid. is_tag t (tag_of kid)) (kids n)
-
--- attributes
-
-abbrev pub given : Attribute → Node → Option Member
-given a n = member (attribute_text a) n
-
-abbrev pub has : Attribute → Node → Bool
-has a n = is_some (given a n)
-
-abbrev pub words_at : Attribute → Node → List (List ℕ)
-words_at a n = option_map_or words_of (given a n) []
-
-abbrev pub text_at : Attribute → Node → Option (List ℕ)
-text_at a n = option_and_then plain_text (given a n)
-
-abbrev pub is_text_at : Attribute → List ℕ → Node → Bool
-is_text_at a text n = option_map_or (λ own. bytes_eq own text) (text_at a n) false
 
 -- ids
 
@@ -116,9 +46,9 @@ is_text_at a text n = option_map_or (λ own. bytes_eq own text) (text_at a n) fa
 abbrev pub first_with : (Tag → Bool) → Attribute → Chart → List ℕ → Option Path
 first_with test a c text = find (λ path. test (tag_of (element c path)) && is_text_at a text (element c path)) (elements c)
 
--- a state, parallel, final or history by its id: the first one of that id
-abbrev pub state_named : Chart → List ℕ → Option Path
-state_named c id = first_with is_state attribute.Id c id
+-- the path of a state or history by its id: the first one of that id
+abbrev pub path_named : Chart → List ℕ → Option Path
+path_named c id = first_with is_numbered attribute.Id c id
 
 -- whether an earlier element that passes the test has the same text
 abbrev pub is_repeated : (Tag → Bool) → Attribute → Chart → Path → Bool
@@ -127,7 +57,7 @@ is_repeated test a c path = test (tag_of (element c path))
 
 -- 20: the id of an earlier state
 abbrev pub is_double_id : Chart → Path → Bool
-is_double_id c path = is_repeated is_state attribute.Id c path
+is_double_id c path = is_repeated is_numbered attribute.Id c path
 
 -- targets
 
@@ -140,11 +70,11 @@ target_ids n t = []
 
 -- 21: a target that is no state's id
 abbrev pub has_unknown_target : Chart → Path → Bool
-has_unknown_target c path = list_any (λ id. is_none (state_named c id)) (target_ids (element c path) (tag_of (element c path)))
+has_unknown_target c path = list_any (λ id. is_none (path_named c id)) (target_ids (element c path) (tag_of (element c path)))
 
 -- the targets that there are
 abbrev pub targets : Chart → List (List ℕ) → List Path
-targets c ids = filter_map (state_named c) ids
+targets c ids = filter_map (path_named c) ids
 
 abbrev pub common : Path → Path → Path
 common (a ∷ above) (b ∷ other) = if a == b then a ∷ common above other else []

@@ -1,62 +1,26 @@
--- One microstep (SCXML Appendix D, microstep, exitStates, executeTransitionContent and enterStates).
-use Rattle.std.specs.Prelude.{ℕ, Bool, true, false, List, [], ◌∷◌, filter}
-use Rattle.std.specs.Option.{option_map_or}
+-- One microstep (SCXML 3.13; Appendix D, microstep, exitStates, executeTransitionContent and enterStates).
+use Rattle.std.specs.Prelude.{List, [], ℕ, ◌∷◌}
+use Rattle.sc_base.specs.Folds.{each}
 use Rattle.sc_types.specs.declared.chart.Chart.{Chart}
-use Rattle.sc_types.specs.declared.chart.Node.{Node, out-Node}
-use Rattle.sc_types.specs.declared.chart.Tag.{Tag}
-use Rattle.sc_types.specs.declared.chart.Tag.TheVariants.{OnEntry}
-use Rattle.sc_law.specs.declared.entry.EntryTriple.{EntryTriple}
-use Rattle.sc_law.specs.declared.run_state.RunState.{RunState}
-use Rattle.sc_law.specs.declared.tree.Transition as row
-use Rattle.sc_law.specs.Tree.{kids, kids_of}
-use Rattle.sc_law.specs.Sets.{put, without, transition_node, exit_set}
+use Rattle.sc_law.specs.Nodes.{kids}
+use Rattle.sc_law.specs.Transitions.{transition}
+use Rattle.sc_law.specs.Sets.{Histories, exit_set}
 use Rattle.sc_law.specs.Entry.{entry}
+use Rattle.sc_law.specs.Runs.{RunState, Running, with_running}
 use Rattle.sc_law.specs.Content.{run_block}
+use Rattle.sc_law.specs.Leaving.{exit_states}
+use Rattle.sc_law.specs.Entering.{enter}
 
--- exitStates: the states leave the configuration, and those whose invokes are still to be started
-abbrev pub exit_states : List ℕ → RunState → RunState
-exit_states gone r = record r {
-  todo = without gone r.todo;
-  state = record r.state { configuration = without gone r.state.configuration };
-}
+-- executeTransitionContent, of one transition
+abbrev pub run_content : Chart → ℕ → Running → Running
+run_content c t r = run_block (kids (transition c t)) r
 
-abbrev pub is_onentry : Tag → Bool
-is_onentry OnEntry = true
-is_onentry tag = false
+-- what transitions do to a run whose states they have exited, with the histories before that exit
+abbrev pub arrive : Chart → List ℕ → Histories → RunState → RunState
+arrive c ts before x = with_running (enter c (entry c before x.histories ts) (each (run_content c) ts x.running)) x
 
--- each `<onentry>` is a block of its own
-abbrev pub run_blocks : List Node → RunState → RunState
-run_blocks [] r = r
-run_blocks (n ∷ ns) r = run_blocks ns (run_block (kids n) r)
-
--- enterStates, for one state: it joins the configuration, and its `<onentry>` blocks run
-abbrev pub joined : ℕ → RunState → RunState
-joined s r = record r {
-  todo = put s r.todo;
-  state = record r.state { configuration = put s r.state.configuration; entered = put s r.state.entered };
-}
-
-abbrev pub enter_state : Chart → ℕ → RunState → RunState
-enter_state c s r = run_blocks (filter (λ n. is_onentry (out-Node n).tag) (kids_of c s)) (joined s r)
-
-abbrev pub enter_states : Chart → List ℕ → RunState → RunState
-enter_states c [] r = r
-enter_states c (s ∷ ss) r = enter_states c ss (enter_state c s r)
-
--- the states of the triple in document order
-abbrev pub enter : Chart → EntryTriple → RunState → RunState
-enter c e r = enter_states c e.states r
-
--- executeTransitionContent, for each transition in order
-abbrev pub run_contents : Chart → List row.Transition → RunState → RunState
-run_contents c [] r = r
-run_contents c (t ∷ ts) r = run_contents c ts (run_block (option_map_or kids (transition_node c t) []) r)
-
--- what the transitions do to a run that has left their exit set, the histories before that exit being given
-abbrev pub arrive : Chart → List row.Transition → List (ℕ × List ℕ) → RunState → RunState
-arrive c ts before r = enter c (entry c before r.state.histories ts) (run_contents c ts r)
-
-abbrev pub microstep : Chart → List row.Transition → RunState → RunState
-microstep c [] r = r
-microstep c (t ∷ ts) r =
-    arrive c (t ∷ ts) r.state.histories (exit_states (exit_set c r.state.histories (t ∷ ts) r.state.configuration) r)
+-- exit, content, entry; without transitions nothing changes
+unfoldable pub microstep : Chart → List ℕ → RunState → RunState
+microstep c [] x = x
+microstep c (t ∷ ts) x = arrive c (t ∷ ts) x.histories
+    (exit_states c (exit_set c x.histories (t ∷ ts) x.running.env.configuration) x)

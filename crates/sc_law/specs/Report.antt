@@ -17,7 +17,7 @@ use Rattle.sc_types.specs.declared.history.Who.TheVariants.{Client, Worker}
 use Rattle.sc_types.specs.declared.host.HostImage.{HostImage}
 use Rattle.sc_types.specs.declared.host.SessionImage.{SessionImage}
 use Rattle.sc_types.specs.declared.session.CueName.{CueName}
-use Rattle.sc_types.specs.declared.session.CueName.TheVariants.{Fresh, Resume, External}
+use Rattle.sc_types.specs.declared.session.CueName.TheVariants.{Fresh, Resume, Cancel, External}
 use Rattle.sc_types.specs.declared.session.How.{How}
 use Rattle.sc_types.specs.declared.session.How.TheVariants.{Final, Cancelled, Runaway}
 use Rattle.sc_types.specs.declared.session.Phase.{Phase}
@@ -63,6 +63,7 @@ refusal_text BadName = codes "9 bad-name"
 abbrev pub cue_text : CueName → List ℕ
 cue_text Fresh = codes "fresh"
 cue_text Resume = codes "resume"
+cue_text Cancel = codes "cancel"
 cue_text (External n) = codes "external " ++ decimal n
 
 abbrev pub reply_text : Reply → List ℕ

@@ -3,9 +3,9 @@ use Rattle.std.specs.Prelude.{ℕ, ◌≡◌, ◌≤◌, ◌==◌, Bool, true, f
 use Rattle.std.specs.List.{list_all}
 use Rattle.std.proofs.Common.{zero, suc}
 use Rattle.sc_types.specs.declared.command.Command.{Command}
-use Rattle.sc_types.specs.declared.command.Command.TheVariants.{Install, Start, Post, Step}
+use Rattle.sc_types.specs.declared.command.Command.TheVariants.{Step}
 use Rattle.sc_types.specs.declared.command.Reply.{Reply}
-use Rattle.sc_types.specs.declared.command.Reply.TheVariants.{Installed, Started, Posted, Stepped, Refused}
+use Rattle.sc_types.specs.declared.command.Reply.TheVariants.{Stepped}
 use Rattle.sc_types.specs.declared.history.Entry.{Entry}
 use Rattle.sc_types.specs.declared.history.Who.{Who}
 use Rattle.sc_types.specs.declared.history.Who.TheVariants.{Client, Worker}
@@ -57,22 +57,15 @@ IsRun g cs budget (e ∷ es) = Continues (next g cs budget) g cs budget e (λ g'
 
 abbrev pub is_of : Who → Who → Bool
 is_of Worker Worker = true
-is_of Worker (Client n) = false
-is_of (Client m) Worker = false
 is_of (Client m) (Client n) = m == n
+is_of who other = false
 
 abbrev pub commands_of : Who → List Entry → List Command
 commands_of who history = map (λ (e : Entry). e.command) (filter (λ (e : Entry). is_of who e.who) history)
 
 abbrev pub is_accepted_step : Command → Reply → Bool
 is_accepted_step (Step session) (Stepped cue) = true
-is_accepted_step (Step session) Installed = false
-is_accepted_step (Step session) Started = false
-is_accepted_step (Step session) (Posted n) = false
-is_accepted_step (Step session) (Refused why) = false
-is_accepted_step (Install name text) reply = false
-is_accepted_step (Start session chart) reply = false
-is_accepted_step (Post session name pairs) reply = false
+is_accepted_step c reply = false
 
 -- an entry is of the set-up's client, or it is an accepted step of a worker
 abbrev pub served_by : Who → Command → Reply → Bool
@@ -93,9 +86,7 @@ accepted_steps history = count_by (λ (e : Entry). is_accepted_step e.command e.
 -- a script has no steps of its own
 abbrev pub IsNoStep : Command → Type 0
 IsNoStep (Step session) = ⊥
-IsNoStep (Install name text) = Unit {0}
-IsNoStep (Start session chart) = Unit {0}
-IsNoStep (Post session name pairs) = Unit {0}
+IsNoStep c = Unit {0}
 
 -- The promise for a script of one client: what is run from the empty host is one legal history; each accepted
 -- event is consumed at most once; the script is served; at the end no session is ready.

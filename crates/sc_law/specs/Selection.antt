@@ -1,85 +1,80 @@
 -- Which transitions a microstep takes (SCXML 3.13, Appendix D selectEventlessTransitions, selectTransitions and
--- removeConflictingTransitions).
-use Rattle.std.specs.Prelude.{ℕ, ◌+◌, ◌==◌, Bool, true, false, not, ◌&&◌, if◌then◌else◌, is_none, Option, Some, None, List, [], ◌∷◌, ◌++◌, filter, find, codes}
-use Rattle.std.specs.Option.{option_map_or}
-use Rattle.std.specs.List.{list_any, flat_map}
-use Rattle.sc_types.specs.Descriptors.{any_matches}
+-- removeConflictingTransitions). Conditions may put errors into the internal queue, so that a run is handed on.
+use Rattle.std.specs.Prelude.{Bool, List, None, Option, Some, [], filter, flat_map, if◌then◌else◌, not, ℕ, ◌&&◌, ◌++◌, ◌∷◌}
+use Rattle.std.specs.List.{list_any}
+use Rattle.sc_base.specs.Ascending.{contains}
+use Rattle.sc_base.specs.Folds.{each}
 use Rattle.sc_types.specs.declared.chart.Chart.{Chart}
-use Rattle.sc_types.specs.declared.chart.Node.{Node, out-Node}
-use Rattle.sc_types.specs.declared.chart.Tag.{Tag}
-use Rattle.sc_types.specs.declared.chart.Tag.TheVariants.{Transition}
-use Rattle.sc_law.specs.declared.run_state.RunState.{RunState}
-use Rattle.sc_law.specs.declared.tree.Transition as row
-use Rattle.sc_law.specs.Tree.{kids_of, is_below, ancestors, is_atomic, member, words_of}
-use Rattle.sc_law.specs.Sets.{Histories, transition_node, leaves}
+use Rattle.sc_law.specs.Tree.{ancestors, is_below}
+use Rattle.sc_law.specs.Transitions.{condition, is_match, source, transitions_of}
+use Rattle.sc_law.specs.Sets.{Histories, leaves}
+use Rattle.sc_law.specs.Runs.{RunState, Running, with_running}
+use Rattle.sc_law.specs.Outcomes.{holds}
+use Rattle.sc_law.specs.Kinds.{is_atomic}
 
-abbrev pub is_transition : Tag → Bool
-is_transition Transition = true
-is_transition tag = false
+-- the transitions that an atomic state looks at: its own, then those of its ancestors from the nearest
+abbrev pub candidates : Chart → ℕ → List ℕ
+candidates c s = flat_map (transitions_of c) (s ∷ ancestors c s)
 
--- the transitions among a state's child elements from a place on
-abbrev pub transitions_among : ℕ → ℕ → List Node → List row.Transition
-transitions_among source place [] = []
-transitions_among source place (kid ∷ kids) =
-    if is_transition (out-Node kid).tag then record { source = source; place = place } ∷ transitions_among source (place + 1) kids else transitions_among source (place + 1) kids
+abbrev pub found : ℕ → Running → Option ℕ × Running
+found t r = (Some t, r)
 
--- a state's own transitions, in document order
-abbrev pub transitions_of : Chart → ℕ → List row.Transition
-transitions_of c s = transitions_among s 0 (kids_of c s)
+-- the transition where its condition holds, else what comes later
+abbrev pub tested : ℕ → (Running → Option ℕ × Running) → Bool × Running → Option ℕ × Running
+tested t later h = (if h.0 then found t else later) h.1
 
--- 3.12.1: a transition with `event` matches an event that one of its descriptors matches; one without
--- `event` matches where no event is there
-abbrev pub matches_event : Option (List ℕ) → Node → Bool
-matches_event None n = is_none (member (codes "event") n)
-matches_event (Some name) n = option_map_or (λ m. any_matches (words_of m) name) (member (codes "event") n) false
+abbrev pub found_or : Chart → ℕ → (Running → Option ℕ × Running) → Running → Option ℕ × Running
+found_or c t later r = tested t later (holds (condition c t) r)
 
--- Conditions come with the expression language; without `cond` a transition is enabled where it matches.
-abbrev pub is_enabled : Chart → Option (List ℕ) → row.Transition → Bool
-is_enabled c event t = option_map_or (matches_event event) (transition_node c t) false
-
--- the first enabled transition of an atomic state: its own, then those of its ancestors from the nearest
-abbrev pub first_enabled : Chart → Option (List ℕ) → ℕ → Option row.Transition
-first_enabled c event s = find (is_enabled c event) (flat_map (transitions_of c) (s ∷ ancestors c s))
-
-abbrev pub is_same : row.Transition → row.Transition → Bool
-is_same t u = t.source == u.source && t.place == u.place
+-- the first of these that matches and whose condition holds; no condition behind it, or of one that does not match, is
+-- evaluated
+abbrev pub first_enabled : Chart → Option (List ℕ) → List ℕ → Running → Option ℕ × Running
+first_enabled c event [] r = (None, r)
+first_enabled c event (t ∷ ts) r =
+    (if is_match c event t then found_or c t (first_enabled c event ts) else first_enabled c event ts) r
 
 -- a transition is chosen once
-abbrev pub choose : List row.Transition → Option row.Transition → List row.Transition
+abbrev pub choose : List ℕ → Option ℕ → List ℕ
 choose chosen None = chosen
-choose chosen (Some t) = if list_any (is_same t) chosen then chosen else chosen ++ t ∷ []
+choose chosen (Some t) = if contains chosen t then chosen else chosen ++ t ∷ []
 
-abbrev pub chosen_from : Chart → Option (List ℕ) → List row.Transition → List ℕ → List row.Transition
-chosen_from c event chosen [] = chosen
-chosen_from c event chosen (s ∷ ss) = chosen_from c event (choose chosen (first_enabled c event s)) ss
-
--- what the active atomic states choose, in document order
-abbrev pub chosen : Chart → Option (List ℕ) → List ℕ → List row.Transition
-chosen c event configuration = chosen_from c event [] (filter (is_atomic c) configuration)
+-- what these atomic states choose, in document order; the condition of one ancestor's transition is evaluated for each
+abbrev pub chosen_from : Chart → Option (List ℕ) → List ℕ → List ℕ → Running → List ℕ × Running
+chosen_from c event chosen [] r = (chosen, r)
+chosen_from c event chosen (s ∷ ss) r =
+    let f = first_enabled c event (candidates c s) r in chosen_from c event (choose chosen f.0) ss f.1
 
 -- two transitions conflict where their exit sets meet
-abbrev pub conflicts : Chart → Histories → List ℕ → row.Transition → row.Transition → Bool
+abbrev pub conflicts : Chart → Histories → List ℕ → ℕ → ℕ → Bool
 conflicts c h configuration t u = list_any (λ s. leaves c h t s && leaves c h u s) configuration
 
--- a transition gives way to an earlier one that it conflicts with, unless its own source lies below
-abbrev pub gives_way : Chart → Histories → List ℕ → row.Transition → row.Transition → Bool
-gives_way c h configuration t u = conflicts c h configuration t u && not (is_below c t.source u.source)
+-- Appendix D, removeConflictingTransitions: a transition gives way to an earlier one that it conflicts with, unless
+-- its own source lies below
+abbrev pub gives_way : Chart → Histories → List ℕ → ℕ → ℕ → Bool
+gives_way c h configuration t u = conflicts c h configuration t u && not (is_below c (source c t) (source c u))
 
-abbrev pub keep : Chart → Histories → List ℕ → List row.Transition → row.Transition → List row.Transition
-keep c h configuration kept t =
-    if list_any (gives_way c h configuration t) kept then kept else filter (λ u. not (conflicts c h configuration t u)) kept ++ t ∷ []
+-- a transition that does not give way takes the place of those that it conflicts with
+abbrev pub keep : Chart → Histories → List ℕ → ℕ → List ℕ → List ℕ
+keep c h configuration t kept =
+    if list_any (gives_way c h configuration t) kept then kept
+    else filter (λ u. not (conflicts c h configuration t u)) kept ++ t ∷ []
 
-abbrev pub kept_from : Chart → Histories → List ℕ → List row.Transition → List row.Transition → List row.Transition
-kept_from c h configuration kept [] = kept
-kept_from c h configuration kept (t ∷ ts) = kept_from c h configuration (keep c h configuration kept t) ts
+abbrev pub kept_of : Chart → Histories → List ℕ → List ℕ → List ℕ
+kept_of c h configuration chosen = each (keep c h configuration) chosen []
 
--- what selection gives, and the run as it leaves it
+-- what selection gives, and the run as it leaves it, with what the conditions put into the queue
 pub record Selected : Type 0 where
-  pub transitions : List row.Transition
+  pub transitions : List ℕ
   pub run : RunState
 
-abbrev pub select : Chart → Option (List ℕ) → RunState → Selected
-select c event r = record {
-  transitions = kept_from c r.state.histories r.state.configuration [] (chosen c event r.state.configuration);
-  run = r;
+abbrev pub selected : Chart → RunState → List ℕ × Running → Selected
+selected c x chosen = record {
+  transitions = kept_of c x.histories x.running.env.configuration chosen.0;
+  run = with_running chosen.1 x;
 }
+
+-- the transitions that are taken, without an event or for one of this name; the configuration and the histories are
+-- those before any of them
+unfoldable pub select : Chart → Option (List ℕ) → RunState → Selected
+select c event x = let ss = filter (is_atomic c) x.running.env.configuration in
+    selected c x (chosen_from c event [] ss x.running)

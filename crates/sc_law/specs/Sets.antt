@@ -1,60 +1,59 @@
--- Ordered sets, effective targets, domains and exit sets (SCXML Appendix D). A set of states is the ascending
--- list of its numbers, which is document order.
-use Rattle.std.specs.Prelude.{ℕ, ◌==◌, Bool, false, not, nat_lt, Option, Some, None, option_and_then, unwrap_or, List, [], ◌∷◌, ◌++◌, filter, find, slice_get, codes}
+-- Effective targets, domains and exit sets (SCXML Appendix D).
+use Rattle.std.specs.Prelude.{Bool, List, None, Option, Some, [], false, filter, find, flat_map, if◌then◌else◌, option_and_then, unwrap_or, ℕ, ◌&&◌, ◌==◌, ◌∷◌}
+use Rattle.std.specs.List.{list_all, list_any}
 use Rattle.std.specs.Option.{option_map_or}
-use Rattle.std.specs.List.{list_any, list_all, filter_map}
 use Rattle.sc_types.specs.declared.chart.Chart.{Chart}
-use Rattle.sc_types.specs.declared.chart.Node.{Node}
-use Rattle.sc_law.specs.declared.tree.Transition.{Transition}
-use Rattle.sc_law.specs.Tree.{state_count, kids_of, is_below, ancestors, member, words_of, state_named}
+use Rattle.sc_law.specs.Tree.{ancestors, is_below, root}
+use Rattle.sc_law.specs.Configurations.{defaults}
+use Rattle.sc_law.specs.Transitions.{is_internal, source, targets}
+use Rattle.sc_law.specs.Kinds.{is_compound, is_history}
 
--- the recorded states of each history that has any
+-- the states that each history recorded, 3.10
 abbrev pub Histories : Type 0
 Histories = List (ℕ × List ℕ)
 
--- Appendix D, OrderedSet: what is there already is not added
-abbrev pub put : ℕ → List ℕ → List ℕ
-put s set = filter (λ t. nat_lt t s) set ++ s ∷ filter (λ t. nat_lt s t) set
+-- an empty record is no value: the history stands for its defaults then (this host's own rule)
+abbrev pub some_states : List ℕ → Option (List ℕ)
+some_states [] = None
+some_states (s ∷ ss) = Some (s ∷ ss)
 
-abbrev pub put_all : List ℕ → List ℕ → List ℕ
-put_all [] set = set
-put_all (s ∷ ss) set = put_all ss (put s set)
+-- what a history recorded
+abbrev pub value_of_history : Histories → ℕ → Option (List ℕ)
+value_of_history h s =
+    option_and_then (λ (kept : ℕ × List ℕ). some_states kept.1) (find (λ (kept : ℕ × List ℕ). kept.0 == s) h)
 
-abbrev pub contains : List ℕ → ℕ → Bool
-contains set s = list_any (λ t. t == s) set
+-- Appendix D, getEffectiveTargetStates: a history stands for what it recorded, else for its defaults
+abbrev pub stands_for : Chart → Histories → ℕ → List ℕ
+stands_for c h s = if is_history c s then unwrap_or (value_of_history h s) (defaults c s) else s ∷ []
 
-abbrev pub without : List ℕ → List ℕ → List ℕ
-without gone set = filter (λ s. not (contains gone s)) set
-
-abbrev pub transition_node : Chart → Transition → Option Node
-transition_node c t = slice_get (kids_of c t.source) t.place
-
--- the states that `target` names, in its order
-abbrev pub targets : Chart → Transition → List ℕ
-targets c t = filter_map (state_named c) (option_map_or words_of (option_and_then (member (codes "target")) (transition_node c t)) [])
-
--- Appendix D, getEffectiveTargetStates: a state stands for itself
 abbrev pub effective_targets : Chart → Histories → List ℕ → List ℕ
-effective_targets c h targets = targets
+effective_targets c h ss = flat_map (stands_for c h) ss
 
+-- a state is above all of these
 abbrev pub is_above_all : Chart → List ℕ → ℕ → Bool
-is_above_all c targets above = list_all (λ t. is_below c t above) targets
+is_above_all c ss above = list_all (λ s. is_below c s above) ss
 
--- the nearest of these that is above all targets, else the root
-abbrev pub nearest_above : Chart → List ℕ → List ℕ → ℕ
-nearest_above c targets candidates = unwrap_or (find (is_above_all c targets) candidates) (state_count c)
+-- 3.13: an internal transition of a compound state whose effective targets are all below it
+abbrev pub is_own_domain : Chart → ℕ → List ℕ → Bool
+is_own_domain c t ss = is_internal c t && is_compound c (source c t) && is_above_all c ss (source c t)
+
+-- Appendix D, findLCCA: the nearest compound ancestor above all of these, else the root
+abbrev pub nearest_above : Chart → ℕ → List ℕ → ℕ
+nearest_above c s ss = unwrap_or (find (λ a. is_compound c a && is_above_all c ss a) (ancestors c s)) (root c)
 
 -- Appendix D, getTransitionDomain: none without targets
 abbrev pub domain_over : Chart → ℕ → List ℕ → Option ℕ
-domain_over c source [] = None
-domain_over c source (t ∷ ts) = Some (nearest_above c (t ∷ ts) (ancestors c source))
+domain_over c t [] = None
+domain_over c t (s ∷ ss) =
+    Some (if is_own_domain c t (s ∷ ss) then source c t else nearest_above c (source c t) (s ∷ ss))
 
-abbrev pub domain : Chart → Histories → Transition → Option ℕ
-domain c h t = domain_over c t.source (effective_targets c h (targets c t))
+unfoldable pub domain : Chart → Histories → ℕ → Option ℕ
+domain c h t = domain_over c t (effective_targets c h (targets c t))
+
+-- a transition exits a state, where that is active
+abbrev pub leaves : Chart → Histories → ℕ → ℕ → Bool
+leaves c h t s = option_map_or (is_below c s) (domain c h t) false
 
 -- Appendix D, computeExitSet: the active states below the domain of one of the transitions
-abbrev pub leaves : Chart → Histories → Transition → ℕ → Bool
-leaves c h t s = option_map_or (λ d. is_below c s d) (domain c h t) false
-
-abbrev pub exit_set : Chart → Histories → List Transition → List ℕ → List ℕ
+unfoldable pub exit_set : Chart → Histories → List ℕ → List ℕ → List ℕ
 exit_set c h ts configuration = filter (λ s. list_any (λ t. leaves c h t s) ts) configuration

@@ -2,16 +2,10 @@
 //! computes them: slow, and there to be read.
 #![tactic(auto)]
 
-mod content;
-mod entry;
-mod interpreter;
-mod microstep;
-mod run_state;
-mod selection;
-mod sets;
+mod flat;
 mod tree;
 
-pub use entry::EntryTriple;
-pub use interpreter::turn;
-pub use run_state::{Effect, RunState, TurnResult};
-pub use tree::{Path, Transition, Tree, has_states, is_atomic_element, leads_on, member, node_at};
+pub use flat::{EntryTriple, RunState, Transition, TurnResult, turn};
+pub use tree::{
+    Path, Tree, element, element_paths, has_states, is_atomic_element, leads_on, member, node_at,
+};

@@ -1,22 +1,18 @@
-ghost use Rattle.std.specs.Prelude.{◌≡◌, ◌++◌, ◌==◌, IfOk, OnOk, false, [], reverse, position, codes, option_and_then};
+ghost use Rattle.std.specs.Prelude.{◌≡◌, ◌++◌, if◌then◌else◌, IfOk, OnOk, false, [], reverse, position, option_and_then, codes};
 ghost use Rattle.std.specs.List.{list_any};
 ghost use Rattle.std.specs.Option.{option_copied, option_map_or};
-ghost use Rattle.std.specs.Str.{bytes_eq};
-ghost use Rattle.sc_law.specs.Tree.{own_path, state_paths, paths_from, node_at, path_of, node_of, kids_of, leads_on, is_below, numbers_where, ancestors, tag_of, is_proper_state, has_states, is_atomic_element, is_atomic, member, id_of, has_id, state_named};
+ghost use Rattle.sc_types.specs.declared.attribute.Attribute.TheVariants as attribute;
+ghost use Rattle.sc_law.specs.Nodes.{elements, elements_from, element, node_at, leads_on, tag_of, member, text_at, is_text_at};
+ghost use Rattle.sc_law.specs.Tree.{state_paths, path_of, node_of, kids_of, is_below, numbers_where, ancestors, has_states, is_atomic_element, id_of, state_named};
+ghost use Rattle.sc_types.specs.declared.state_kind.StateKind.TheVariants as kind;
+ghost use Rattle.sc_law.specs.Kinds.{kind_at, kind_of, is_atomic};
 
-use sc_types::{Chart, Member, NoMemory, Node, Plain, Sequence, Tag};
+use sc_types::{Attribute, Chart, Member, NoMemory, Node, Plain, Sequence, StateKind, Tag};
 use std::alloc::Global;
 use std::marker::Model;
 
 /// The places among child elements that lead from the root to an element.
 pub type Path = Sequence<usize>;
-
-/// A transition, named by the state that it leaves and its place among that state's child elements.
-#[derive(Clone, Copy, Debug, PartialEq, Eq)]
-pub struct Transition {
-    pub source: u32,
-    pub place: usize,
-}
 
 /// A chart, with the paths of its states beside it.
 #[derive(Debug, Drop)]
@@ -45,8 +41,7 @@ impl Tree {
     pub fn new(alloc: Global, chart: Chart) -> Result<Tree, NoMemory>
         ensures { IfOk result (λ t. t ≡ chart) }
     {
-        let mut paths = Sequence::new(alloc);
-        add_paths(alloc, &mut paths, &chart.root, &Sequence::new(alloc))?;
+        let paths = state_paths(alloc, &chart)?;
         Ok(Tree { chart, paths })
     }
 
@@ -101,10 +96,17 @@ impl Tree {
     pub fn is_atomic(&self, state: u32) -> bool
         ensures { result ≡ is_atomic self.now state }
     {
-        match node_at(&self.chart().root, self.path_of(state)) {
-            Some(node) => is_atomic_element(node),
-            None => false,
-        }
+        matches!(
+            self.kind_of(state),
+            Some(StateKind::Atomic | StateKind::Final)
+        )
+    }
+
+    /// What a state or history is. The root has no kind.
+    pub fn kind_of(&self, state: u32) -> Option<StateKind>
+        ensures { result ≡ kind_of self.now state }
+    {
+        kind_at(element(self.chart(), self.path_of(state)))
     }
 
     /// The state of an id, if there is one.
@@ -121,16 +123,13 @@ impl Tree {
         ensures { option_copied result ≡ option_and_then id_of (node_of self.now state) }
     {
         let node = node_at(&self.chart().root, self.path_of(state))?;
-        plain_id(node)
+        text_at(Attribute::Id, node)
     }
 
     fn has_id(&self, id: &[u8], path: &[usize]) -> bool
-        ensures { result ≡ has_id self.now id.now path.now }
+        ensures { result ≡ is_text_at attribute.Id id.now (element self.now path.now) }
     {
-        match node_at(&self.chart().root, path) {
-            Some(node) => has_plain_id(node, id),
-            None => false,
-        }
+        is_text_at(Attribute::Id, id, element(self.chart(), path))
     }
 }
 
@@ -158,17 +157,43 @@ fn numbers_above(alloc: Global, paths: &[Path], own: &[usize]) -> Result<Vec<u32
     Ok(above)
 }
 
-fn is_proper_state(tag: Tag) -> bool
-    ensures { result ≡ is_proper_state tag }
+fn kind_at(node: &Node) -> Option<StateKind>
+    ensures { result ≡ kind_at node.now (tag_of node.now) }
 {
-    matches!(tag, Tag::State | Tag::Parallel | Tag::Final)
+    match node.tag {
+        Tag::State => Some(state_kind(node)),
+        Tag::Final => Some(StateKind::Final),
+        Tag::Parallel => Some(StateKind::Parallel),
+        Tag::History => Some(history_kind(node)),
+        _ => None,
+    }
+}
+
+fn state_kind(node: &Node) -> StateKind
+    ensures { result ≡ (if has_states node.now then kind.Compound else kind.Atomic) }
+{
+    if has_states(node) {
+        StateKind::Compound
+    } else {
+        StateKind::Atomic
+    }
+}
+
+fn history_kind(node: &Node) -> StateKind
+    ensures { result ≡ (if is_text_at attribute.Type (codes "deep") node.now then kind.Deep else kind.Shallow) }
+{
+    if is_text_at(Attribute::Type, b"deep", node) {
+        StateKind::Deep
+    } else {
+        StateKind::Shallow
+    }
 }
 
 /// Whether an element has child states. Histories are none.
 pub fn has_states(node: &Node) -> bool
     ensures { result ≡ has_states node.now }
 {
-    node.kids.slice().iter().any(|kid| is_proper_state(kid.tag))
+    node.kids.slice().iter().any(|kid| kid.tag.is_state())
 }
 
 /// Whether an element is a state without child states, or a final.
@@ -182,20 +207,30 @@ pub fn is_atomic_element(node: &Node) -> bool
     }
 }
 
-fn add_own_path(
-    alloc: Global,
-    out: &mut Sequence<Path>,
-    tag: Tag,
-    path: &Path,
-) -> Result<(), NoMemory>
-    ensures { OnOk result (out.new ≡ out.old ++ own_path tag path.now) }
+/// The paths of the states and histories of a chart, in document order.
+fn state_paths(alloc: Global, chart: &Chart) -> Result<Sequence<Path>, NoMemory>
+    ensures { IfOk result (λ p. p ≡ state_paths chart.now) }
 {
-    if !tag.is_state() {
-        return Ok(());
+    let all = element_paths(alloc, chart)?;
+    let mut paths = Sequence::new(alloc);
+    for path in all.slice() {
+        if element(chart, path.slice()).tag.is_numbered() {
+            paths.push(path.copy()?)?;
+        }
     }
-    out.push(path.copy(alloc)?)
+    Ok(paths)
 }
 
+/// The paths of all elements of a chart, in document order.
+pub fn element_paths(alloc: Global, chart: &Chart) -> Result<Sequence<Path>, NoMemory>
+    ensures { IfOk result (λ p. p ≡ elements chart.now) }
+{
+    let mut paths = Sequence::new(alloc);
+    add_paths(alloc, &mut paths, &chart.root, &Sequence::new(alloc))?;
+    Ok(paths)
+}
+
+/// Adds the path of an element, and those of the elements below it.
 #[cycle(paths)]
 fn add_paths(
     alloc: Global,
@@ -203,11 +238,11 @@ fn add_paths(
     node: &Node,
     path: &Path,
 ) -> Result<(), NoMemory>
-    ensures { OnOk result (out.new ≡ out.old ++ paths_from node.now path.now) }
+    ensures { OnOk result (out.new ≡ out.old ++ elements_from node.now path.now) }
 {
-    add_own_path(alloc, out, node.tag, path)?;
+    out.push(path.copy()?)?;
     for (place, kid) in node.kids.slice().iter().enumerate() {
-        let mut below = path.copy(alloc)?;
+        let mut below = path.copy()?;
         below.push(place)?;
         add_paths(alloc, out, kid, &below)?;
     }
@@ -232,6 +267,16 @@ pub fn leads_on(above: &[usize], path: &[usize]) -> bool
     above.len() < path.len() && path.starts_with(above)
 }
 
+/// The element at a path; the root where there is none.
+pub fn element<'a>(chart: &'a Chart, path: &[usize]) -> &'a Node
+    ensures { result.now ≡ element chart.now path.now }
+{
+    match node_at(&chart.root, path) {
+        Some(node) => node,
+        None => &chart.root,
+    }
+}
+
 /// The attribute of a name.
 pub fn member<'a>(name: &[u8], node: &'a Node) -> Option<&'a Member>
     ensures { option_copied result ≡ member name.now node.now }
@@ -240,20 +285,21 @@ pub fn member<'a>(name: &[u8], node: &'a Node) -> Option<&'a Member>
     Some(&found.1)
 }
 
-fn has_plain_id(node: &Node, id: &[u8]) -> bool
-    ensures { result ≡ option_map_or (λ own. bytes_eq own id.now) (id_of node.now) false }
+/// The text of an attribute, where it has one.
+fn text_at(attribute: Attribute, node: &Node) -> Option<&[u8]>
+    ensures { option_copied result ≡ text_at attribute node.now }
 {
-    match member(b"id", node) {
-        Some(Member::Plain(own)) => own.slice() == id,
-        _ => false,
+    match member(attribute.text().as_bytes(), node)? {
+        Member::Plain(text) => Some(text.slice()),
+        _ => None,
     }
 }
 
-fn plain_id(node: &Node) -> Option<&[u8]>
-    ensures { option_copied result ≡ id_of node.now }
+fn is_text_at(attribute: Attribute, text: &[u8], node: &Node) -> bool
+    ensures { result ≡ is_text_at attribute text.now node.now }
 {
-    match member(b"id", node)? {
-        Member::Plain(own) => Some(own.slice()),
-        _ => None,
+    match text_at(attribute, node) {
+        Some(own) => own == text,
+        None => false,
     }
 }

@@ -5,7 +5,7 @@ use std::test::Fail;
 fn a_name_may_have_a_hash_and_a_word_may_not(rt: HostRuntime) -> Result<(), Fail> {
     assert_eq!(rt; Word::of(rt.alloc(), b"a#").map(|_| ()), Err(Unfit::Form));
     let name = Name::of(rt.alloc(), b"a#")?;
-    let copy = name.copy(rt.alloc())?;
+    let copy = name.copy()?;
     assert_eq!(rt; copy.bytes(), b"a#".as_slice());
     assert!(rt; copy.same(&name));
     Ok(())
@@ -37,9 +37,9 @@ fn each_text_type_takes_its_form(rt: HostRuntime) -> Result<(), Fail> {
     }
     let word = Word::of(rt.alloc(), b"door")?;
     assert_eq!(rt; word.name(rt.alloc())?.bytes(), word.bytes());
-    assert!(rt; word.copy(rt.alloc())?.same(&word));
+    assert!(rt; word.copy()?.same(&word));
     let plain = PlainName::of(rt.alloc(), b"open")?;
-    assert!(rt; plain.copy(rt.alloc())?.same(&plain));
+    assert!(rt; plain.copy()?.same(&plain));
     assert_eq!(rt; plain.bytes(), b"open".as_slice());
     Ok(())
 }

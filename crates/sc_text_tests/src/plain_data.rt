@@ -22,7 +22,7 @@ fn a_sequence_is_a_list(rt: HostRuntime) -> Result<(), Fail> {
     assert_eq!(rt; list.get(3).copied(), None);
     *list.item_mut(1) = 7;
     assert_eq!(rt; list.slice(), [3, 7, 2].as_slice());
-    let copy = list.copy(rt.alloc())?;
+    let copy = list.copy()?;
     assert!(rt; copy.same(&list));
     assert_eq!(rt; list.pop_front(), Some(3));
     assert_eq!(rt; list.slice(), [7, 2].as_slice());
@@ -88,7 +88,7 @@ fn entry(alloc: Global, text: &str) -> Result<Entry, Unfit> {
 
 /// Whether a copy is the same as what it copies, and no other value is.
 fn is_told_apart<T: Plain>(alloc: Global, value: &T, other: &T) -> Result<bool, NoMemory> {
-    let copy = value.copy(alloc)?;
+    let copy = value.copy()?;
     Ok(copy.same(value) && !copy.same(other))
 }
 

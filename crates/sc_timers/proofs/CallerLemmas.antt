@@ -1,30 +1,30 @@
 -- For callers of `add`: the numbers of the pending sends stay below the next number.
 use Rattle.std.proofs.Common.{ℕ, ◌<◌, ◌≤◌, zero, suc, Bool, true, false, cond, List, [], ◌∷◌, arith}
 use Rattle.std.specs.Prelude.{All}
-use Rattle.sc_timers.specs.declared.timed.Timed.{Timed}
-use Rattle.sc_timers.specs.Sends.{is_before, with_send}
+use Rattle.sc_types.specs.declared.host.TimerImage.{TimerImage}
+use Rattle.sc_types.specs.Sends.{is_before, with_send}
 
-abbrev pub AreBelow : ℕ → List Timed → Type 0
-AreBelow n ss = All (λ (s : Timed). s.number < n) ss
+abbrev pub AreBelow : ℕ → List TimerImage → Type 0
+AreBelow n ss = All (λ (s : TimerImage). s.number < n) ss
 
 -- no sends have numbers below any number
 pub below-none : (n : ℕ) → AreBelow n []
 below-none n k d b = absurd (omega arith)
 
 -- numbers below one number are below a greater one
-pub below-more : (m n : ℕ) (ss : List Timed) → m ≤ n → AreBelow m ss → AreBelow n ss
+pub below-more : (m n : ℕ) (ss : List TimerImage) → m ≤ n → AreBelow m ss → AreBelow n ss
 below-more m n ss h a k d b = omega (arith, a k d b)
 
-below-cons : (n : ℕ) (t : Timed) (ss : List Timed) → t.number < n → AreBelow n ss → AreBelow n (t ∷ ss)
+below-cons : (n : ℕ) (t : TimerImage) (ss : List TimerImage) → t.number < n → AreBelow n ss → AreBelow n (t ∷ ss)
 below-cons n t ss h a zero d b = h
 below-cons n t ss h a (suc k) d b = a k d (omega arith)
 
 -- also what `take_due` leaves
-pub below-rest : (n : ℕ) (t : Timed) (ss : List Timed) → AreBelow n (t ∷ ss) → AreBelow n ss
+pub below-rest : (n : ℕ) (t : TimerImage) (ss : List TimerImage) → AreBelow n (t ∷ ss) → AreBelow n ss
 below-rest n t ss a k d b = a (suc k) d (omega arith)
 
 -- a send whose number is below keeps the numbers below when it is added
-pub below-with_send : (n : ℕ) (t : Timed) (ss : List Timed) → t.number < n → AreBelow n ss → AreBelow n (with_send t ss)
+pub below-with_send : (n : ℕ) (t : TimerImage) (ss : List TimerImage) → t.number < n → AreBelow n ss → AreBelow n (with_send t ss)
 below-with_send n t [] h a = below-cons n t [] h a
 below-with_send n t (s ∷ ss) h a = by (is_before t s) (below-with_send n t ss h (below-rest n s ss a))
   where

@@ -4,46 +4,47 @@ use Rattle.std.proofs.lemmas.Bool.Decides.{nat_tests}
 use Rattle.std.specs.Prelude.{All, IsSome, IfSome, insert, slice_get}
 use Rattle.std.specs.Bool.{MatchBool}
 use Rattle.std.specs.List.{cons_option}
-use Rattle.sc_timers.specs.declared.timed.Timed.{Timed}
-use Rattle.sc_timers.specs.Sends.{TimersOf, is_before, with_send, IsBeforeAll, IsInDueOrder}
+use Rattle.sc_types.specs.declared.host.TimerImage.{TimerImage}
+use Rattle.sc_timers.specs.Timers.{TimersOf}
+use Rattle.sc_types.specs.Sends.{is_before, with_send, IsBeforeAll, IsInDueOrder}
 use Rattle.sc_timers.specs.Order.{sends_at, AreFull, IsAway, AreDistinct, AreKept, IsPlaceAfter}
 
-none_some : (t : Timed) → ◌≡◌ {A = Option Timed} None (Some t) → ⊥
+none_some : (t : TimerImage) → ◌≡◌ {A = Option TimerImage} None (Some t) → ⊥
 none_some t e = cc
 
 -- ---- due order
 
-abbrev pub dues_of : List Timed → List ℕ
-dues_of ss = map (λ (s : Timed). s.due) ss
+abbrev pub dues_of : List TimerImage → List ℕ
+dues_of ss = map (λ (s : TimerImage). s.due) ss
 
-before-due : (a b : Timed) → is_before a b ≡ true → a.due ≤ b.due
+before-due : (a b : TimerImage) → is_before a b ≡ true → a.due ≤ b.due
 before-due a b h = grind (arith, nat_tests)
 
-before-trans : (a b c : Timed) → is_before a b ≡ true → is_before b c ≡ true → is_before a c ≡ true
+before-trans : (a b c : TimerImage) → is_before a b ≡ true → is_before b c ≡ true → is_before a c ≡ true
 before-trans a b c h k = grind (arith, nat_tests)
 
 -- t is newer than s
-newer-before : (s t : Timed) → s.number < t.number → s.due ≤ t.due → is_before s t ≡ true
+newer-before : (s t : TimerImage) → s.number < t.number → s.due ≤ t.due → is_before s t ≡ true
 newer-before s t h k = grind (arith, nat_tests)
 
-newer-not_before : (s t : Timed) → s.number < t.number → s.due ≤ t.due → is_before t s ≡ false
+newer-not_before : (s t : TimerImage) → s.number < t.number → s.due ≤ t.due → is_before t s ≡ false
 newer-not_before s t h k = grind (arith, nat_tests)
 
-earlier-before : (s t : Timed) → t.due < s.due → is_before t s ≡ true
+earlier-before : (s t : TimerImage) → t.due < s.due → is_before t s ≡ true
 earlier-before s t h = grind (arith, nat_tests)
 
 -- there are as many dues as sends
-pub length-dues : (ss : List Timed) → length (dues_of ss) ≡ length ss
+pub length-dues : (ss : List TimerImage) → length (dues_of ss) ≡ length ss
 length-dues [] = refl
 length-dues (s ∷ ss) = ap suc (length-dues ss)
 
-ahead-due : (s : Timed) (ss : List Timed) → IsBeforeAll s ss → (j : ℕ) → j < length ss → s.due ≤ get_or (dues_of ss) j 0
+ahead-due : (s : TimerImage) (ss : List TimerImage) → IsBeforeAll s ss → (j : ℕ) → j < length ss → s.due ≤ get_or (dues_of ss) j 0
 ahead-due s [] h j b = absurd (omega arith)
 ahead-due s (x ∷ ss) h zero b = before-due s x h.0
 ahead-due s (x ∷ ss) h (suc j) b = ahead-due s ss h.1 j (omega arith)
 
 -- the dues of sends in due order ascend
-pub dues-sorted : (ss : List Timed) → IsInDueOrder ss → (i j : ℕ) → i ≤ j → j < length (dues_of ss) → get_or (dues_of ss) i 0 ≤ get_or (dues_of ss) j 0
+pub dues-sorted : (ss : List TimerImage) → IsInDueOrder ss → (i j : ℕ) → i ≤ j → j < length (dues_of ss) → get_or (dues_of ss) i 0 ≤ get_or (dues_of ss) j 0
 dues-sorted [] h i j a b = absurd (omega arith)
 dues-sorted (s ∷ ss) h zero zero a b = omega arith
 dues-sorted (s ∷ ss) h zero (suc j) a b = ahead-due s ss h.0 j (omega (arith, length-dues ss))
@@ -52,10 +53,10 @@ dues-sorted (s ∷ ss) h (suc i) (suc j) a b = dues-sorted ss h.1 i j (omega ari
 
 -- ---- a new send
 
-abbrev pub AreOlder : Timed → List Timed → Type 0
-AreOlder t ss = All (λ (s : Timed). s.number < t.number) ss
+abbrev pub AreOlder : TimerImage → List TimerImage → Type 0
+AreOlder t ss = All (λ (s : TimerImage). s.number < t.number) ss
 
-older_rest : (t s : Timed) (ss : List Timed) → AreOlder t (s ∷ ss) → AreOlder t ss
+older_rest : (t s : TimerImage) (ss : List TimerImage) → AreOlder t (s ∷ ss) → AreOlder t ss
 older_rest t s ss h k d b = h (suc k) d (omega arith)
 
 place_rest : (x : ℕ) (dues : List ℕ) (d p : ℕ) → IsPlaceAfter (x ∷ dues) d (suc p) → IsPlaceAfter dues d p
@@ -66,7 +67,7 @@ place_rest x dues d p a = record {
 }
 
 -- adding a send in due order puts it after those that are due no later
-pub with_send-place : (t : Timed) (ss : List Timed) (p : ℕ) → AreOlder t ss → IsPlaceAfter (dues_of ss) t.due p → with_send t ss ≡ insert ss p t
+pub with_send-place : (t : TimerImage) (ss : List TimerImage) (p : ℕ) → AreOlder t ss → IsPlaceAfter (dues_of ss) t.due p → with_send t ss ≡ insert ss p t
 with_send-place t [] zero o a = refl
 with_send-place t [] (suc p) o a = absurd (omega (arith, a.within))
 with_send-place t (s ∷ ss) zero o a =
@@ -75,11 +76,11 @@ with_send-place t (s ∷ ss) (suc p) o a =
     ap (λ v. cond v (t ∷ s ∷ ss) (s ∷ with_send t ss)) (newer-not_before s t (o 0 s (omega arith)) (a.before 0 (omega arith)))
     ∙ ap (λ xs. s ∷ xs) (with_send-place t ss p (older_rest t s ss o) (place_rest s.due (dues_of ss) t.due p a))
 
-ahead-trans : (t s : Timed) (ss : List Timed) → is_before t s ≡ true → IsBeforeAll s ss → IsBeforeAll t ss
+ahead-trans : (t s : TimerImage) (ss : List TimerImage) → is_before t s ≡ true → IsBeforeAll s ss → IsBeforeAll t ss
 ahead-trans t s [] h a = tt
 ahead-trans t s (x ∷ ss) h a = (before-trans t s x h a.0, ahead-trans t s ss h a.1)
 
-ahead-with_send : (s t : Timed) (ss : List Timed) → IsBeforeAll s ss → is_before s t ≡ true → IsBeforeAll s (with_send t ss)
+ahead-with_send : (s t : TimerImage) (ss : List TimerImage) → IsBeforeAll s ss → is_before s t ≡ true → IsBeforeAll s (with_send t ss)
 ahead-with_send s t [] a h = (h, tt)
 ahead-with_send s t (x ∷ ss) a h = by (is_before t x) (ahead-with_send s t ss a.1 h)
   where
@@ -88,11 +89,11 @@ ahead-with_send s t (x ∷ ss) a h = by (is_before t x) (ahead-with_send s t ss 
     by false rest = (a.0, rest)
 
 -- of a newer send and another, one comes before the other
-newer-either : (s t : Timed) → s.number < t.number → is_before t s ≡ false → is_before s t ≡ true
+newer-either : (s t : TimerImage) → s.number < t.number → is_before t s ≡ false → is_before s t ≡ true
 newer-either s t h k = grind (arith, nat_tests)
 
 -- sends in due order stay so when one is added
-pub with_send-ordered : (t : Timed) (ss : List Timed) → AreOlder t ss → IsInDueOrder ss → IsInDueOrder (with_send t ss)
+pub with_send-ordered : (t : TimerImage) (ss : List TimerImage) → AreOlder t ss → IsInDueOrder ss → IsInDueOrder (with_send t ss)
 with_send-ordered t [] o h = (tt, tt)
 with_send-ordered t (s ∷ ss) o h = by (is_before t s) refl (with_send-ordered t ss (older_rest t s ss o) h.1)
   where
@@ -103,21 +104,21 @@ with_send-ordered t (s ∷ ss) o h = by (is_before t s) refl (with_send-ordered 
 -- ---- the sends at keys
 
 -- a full slot has a send
-pub full_some : (o : Option Timed) → IsSome o → (t : Timed) × (o ≡ Some t)
+pub full_some : (o : Option TimerImage) → IsSome o → (t : TimerImage) × (o ≡ Some t)
 full_some None h = cc
 full_some (Some t) h = (t, refl)
 
 -- a slot with a send is full
-pub is_full : (o : Option Timed) (t : Timed) → o ≡ Some t → IsSome o
+pub is_full : (o : Option TimerImage) (t : TimerImage) → o ≡ Some t → IsSome o
 is_full None t e = cc
 is_full (Some x) t e = refl
 
 -- the sends of keys are the send of the first key and those of the rest
-pub sends-cons : (at : ℕ → Option Timed) (k : ℕ) (ks : List ℕ) (t : Timed) → at k ≡ Some t → sends_at at (k ∷ ks) ≡ t ∷ sends_at at ks
+pub sends-cons : (at : ℕ → Option TimerImage) (k : ℕ) (ks : List ℕ) (t : TimerImage) → at k ≡ Some t → sends_at at (k ∷ ks) ≡ t ∷ sends_at at ks
 sends-cons at k ks t e = ap (λ o. cons_option o (sends_at at ks)) e
 
 -- the send at a place is the one under the key at that place
-pub slice_get-sends : (at : ℕ → Option Timed) (ks : List ℕ) (i : ℕ) → AreFull at ks → i < length ks → slice_get (sends_at at ks) i ≡ at (get_or ks i 0)
+pub slice_get-sends : (at : ℕ → Option TimerImage) (ks : List ℕ) (i : ℕ) → AreFull at ks → i < length ks → slice_get (sends_at at ks) i ≡ at (get_or ks i 0)
 slice_get-sends at [] i f b = absurd (omega arith)
 slice_get-sends at (k ∷ ks) zero f b =
     let first = full_some (at k) f.0 in
@@ -127,40 +128,40 @@ slice_get-sends at (k ∷ ks) (suc i) f b =
     ap (λ xs. slice_get xs (suc i)) (sends-cons at k ks first.0 first.1) ∙ slice_get-sends at ks i f.1 (omega arith)
 
 -- there are as many sends as keys
-pub length-sends : (at : ℕ → Option Timed) (ks : List ℕ) → AreFull at ks → length (sends_at at ks) ≡ length ks
+pub length-sends : (at : ℕ → Option TimerImage) (ks : List ℕ) → AreFull at ks → length (sends_at at ks) ≡ length ks
 length-sends at [] f = refl
 length-sends at (k ∷ ks) f =
     let first = full_some (at k) f.0 in
     ap length (sends-cons at k ks first.0 first.1) ∙ ap suc (length-sends at ks f.1)
 
 -- each key has a send under it
-pub full-at : (at : ℕ → Option Timed) (ks : List ℕ) (i : ℕ) → AreFull at ks → i < length ks → IsSome (at (get_or ks i 0))
+pub full-at : (at : ℕ → Option TimerImage) (ks : List ℕ) (i : ℕ) → AreFull at ks → i < length ks → IsSome (at (get_or ks i 0))
 full-at at [] i f b = absurd (omega arith)
 full-at at (k ∷ ks) zero f b = f.0
 full-at at (k ∷ ks) (suc i) f b = full-at at ks i f.1 (omega arith)
 
 -- the due at a place is that of the send there
-pub due-at : (ss : List Timed) (i : ℕ) (t : Timed) → slice_get ss i ≡ Some t → get_or (dues_of ss) i 0 ≡ t.due
+pub due-at : (ss : List TimerImage) (i : ℕ) (t : TimerImage) → slice_get ss i ≡ Some t → get_or (dues_of ss) i 0 ≡ t.due
 due-at [] i t e = cc
-due-at (s ∷ ss) zero t e = (let same : s ≡ t = cc in ap (λ (x : Timed). x.due) same)
+due-at (s ∷ ss) zero t e = (let same : s ≡ t = cc in ap (λ (x : TimerImage). x.due) same)
 due-at (s ∷ ss) (suc i) t e = due-at ss i t e
 
 -- ---- other sends at the keys
 
 -- a change under another key leaves the sends as they are
-pub sends-same : (at new_at : ℕ → Option Timed) (k : ℕ) (ks : List ℕ) → IsAway k ks → ((j : ℕ) → j ≢ k → new_at j ≡ at j) → sends_at new_at ks ≡ sends_at at ks
+pub sends-same : (at new_at : ℕ → Option TimerImage) (k : ℕ) (ks : List ℕ) → IsAway k ks → ((j : ℕ) → j ≢ k → new_at j ≡ at j) → sends_at new_at ks ≡ sends_at at ks
 sends-same at new_at k [] a h = refl
 sends-same at new_at k (j ∷ js) a h = ap₂ (λ o ss. cons_option o ss) (h j (λ e. a.0 (sym e))) (sends-same at new_at k js a.1 h)
 
 -- a change under another key leaves each key with a send under it
-pub full-same : (at new_at : ℕ → Option Timed) (k : ℕ) (ks : List ℕ) → IsAway k ks → ((j : ℕ) → j ≢ k → new_at j ≡ at j) → AreFull at ks → AreFull new_at ks
+pub full-same : (at new_at : ℕ → Option TimerImage) (k : ℕ) (ks : List ℕ) → IsAway k ks → ((j : ℕ) → j ≢ k → new_at j ≡ at j) → AreFull at ks → AreFull new_at ks
 full-same at new_at k [] a h f = tt
 full-same at new_at k (j ∷ js) a h f =
     let first = full_some (at j) f.0 in
     (is_full (new_at j) first.0 (h j (λ e. a.0 (sym e)) ∙ first.1), full-same at new_at k js a.1 h f.1)
 
 -- a key with no send under it is none of the keys that have one
-pub away-vacant : (at : ℕ → Option Timed) (k : ℕ) (ks : List ℕ) → at k ≡ None → AreFull at ks → IsAway k ks
+pub away-vacant : (at : ℕ → Option TimerImage) (k : ℕ) (ks : List ℕ) → at k ≡ None → AreFull at ks → IsAway k ks
 away-vacant at k [] e f = tt
 away-vacant at k (j ∷ js) e f =
     let first = full_some (at j) f.0 in
@@ -169,7 +170,7 @@ away-vacant at k (j ∷ js) e f =
 -- ---- one more key
 
 -- inserting a key inserts its send at the same place
-pub sends-insert : (at : ℕ → Option Timed) (ks : List ℕ) (p k : ℕ) (t : Timed) → AreFull at ks → at k ≡ Some t → sends_at at (insert ks p k) ≡ insert (sends_at at ks) p t
+pub sends-insert : (at : ℕ → Option TimerImage) (ks : List ℕ) (p k : ℕ) (t : TimerImage) → AreFull at ks → at k ≡ Some t → sends_at at (insert ks p k) ≡ insert (sends_at at ks) p t
 sends-insert at [] zero k t f e = sends-cons at k [] t e
 sends-insert at [] (suc p) k t f e = sends-cons at k [] t e
 sends-insert at (j ∷ js) zero k t f e = sends-cons at k (j ∷ js) t e
@@ -178,7 +179,7 @@ sends-insert at (j ∷ js) (suc p) k t f e =
     sends-cons at j (insert js p k) first.0 first.1 ∙ ap (λ ss. first.0 ∷ ss) (sends-insert at js p k t f.1 e)
     ∙ ap (λ ss. insert ss (suc p) t) (sym (sends-cons at j js first.0 first.1))
 
-full-insert : (at : ℕ → Option Timed) (ks : List ℕ) (p k : ℕ) → AreFull at ks → IsSome (at k) → AreFull at (insert ks p k)
+full-insert : (at : ℕ → Option TimerImage) (ks : List ℕ) (p k : ℕ) → AreFull at ks → IsSome (at k) → AreFull at (insert ks p k)
 full-insert at [] zero k f s = (s, tt)
 full-insert at [] (suc p) k f s = (s, tt)
 full-insert at (j ∷ js) zero k f s = (s, f)
@@ -196,12 +197,12 @@ distinct-insert [] (suc p) k d a = (tt, tt)
 distinct-insert (j ∷ js) zero k d a = (a, d)
 distinct-insert (j ∷ js) (suc p) k d a = (away-insert j js p k d.0 (λ e. a.0 (sym e)), distinct-insert js p k d.1 a.1)
 
-pub record Added (at new_at : ℕ → Option Timed) (ks : List ℕ) (p k : ℕ) (t : Timed) : Type 0 where
+pub record Added (at new_at : ℕ → Option TimerImage) (ks : List ℕ) (p k : ℕ) (t : TimerImage) : Type 0 where
   pub kept : AreKept new_at (insert ks p k)
   pub sends : sends_at new_at (insert ks p k) ≡ with_send t (sends_at at ks)
 
 -- a new send under a new key at its place gives the sends with that one added, still kept in order
-pub added : (at new_at : ℕ → Option Timed) (ks : List ℕ) (p k : ℕ) (t : Timed) → AreKept at ks → at k ≡ None → new_at k ≡ Some t
+pub added : (at new_at : ℕ → Option TimerImage) (ks : List ℕ) (p k : ℕ) (t : TimerImage) → AreKept at ks → at k ≡ None → new_at k ≡ Some t
     → ((j : ℕ) → j ≢ k → new_at j ≡ at j) → AreOlder t (sends_at at ks) → IsPlaceAfter (dues_of (sends_at at ks)) t.due p
     → Added at new_at ks p k t
 added at new_at ks p k t kept vacant e others older place =
@@ -220,33 +221,33 @@ added at new_at ks p k t kept vacant e others older place =
     }
 
 -- an empty slot is not full
-pub none_full : (o : Option Timed) → None ≡ o → IsSome o → ⊥
+pub none_full : (o : Option TimerImage) → None ≡ o → IsSome o → ⊥
 none_full None e s = cc
 none_full (Some t) e s = none_some t e
 
 -- ---- the first send
 
-later_due : (now : ℕ) (t : Timed) (ss : List Timed) → IsBeforeAll t ss → now < t.due → All (λ (s : Timed). now < s.due) ss
+later_due : (now : ℕ) (t : TimerImage) (ss : List TimerImage) → IsBeforeAll t ss → now < t.due → All (λ (s : TimerImage). now < s.due) ss
 later_due now t [] a h k d b = absurd (omega arith)
 later_due now t (s ∷ ss) a h zero d b = (let first : t.due ≤ s.due = before-due t s a.0 in omega arith)
 later_due now t (s ∷ ss) a h (suc k) d b = later_due now t ss a.1 h k d (omega arith)
 
-all-first : (now : ℕ) (s : Timed) (ss : List Timed) → IsInDueOrder (s ∷ ss) → now < s.due → All (λ (x : Timed). now < x.due) (s ∷ ss)
+all-first : (now : ℕ) (s : TimerImage) (ss : List TimerImage) → IsInDueOrder (s ∷ ss) → now < s.due → All (λ (x : TimerImage). now < x.due) (s ∷ ss)
 all-first now s ss o h zero d b = h
 all-first now s ss o h (suc k) d b = later_due now s ss o.0 h k d (omega arith)
 
 -- where the first send is not due, none is
-pub none-due : (now : ℕ) (ss : List Timed) → IsInDueOrder ss → now < get_or (dues_of ss) 0 0 → All (λ (s : Timed). now < s.due) ss
+pub none-due : (now : ℕ) (ss : List TimerImage) → IsInDueOrder ss → now < get_or (dues_of ss) 0 0 → All (λ (s : TimerImage). now < s.due) ss
 none-due now [] o h = absurd (omega arith)
 none-due now (s ∷ ss) o h = all-first now s ss o h
 
-pub record Taken (at new_at : ℕ → Option Timed) (ks : List ℕ) (t : Timed) : Type 0 where
+pub record Taken (at new_at : ℕ → Option TimerImage) (ks : List ℕ) (t : TimerImage) : Type 0 where
   pub kept : AreKept new_at (drop 1 ks)
   pub sends : sends_at at ks ≡ t ∷ sends_at new_at (drop 1 ks)
   pub ahead : IsBeforeAll t (sends_at new_at (drop 1 ks))
 
 -- removing the first key and its send gives the rest of the sends, still kept in order
-pub taken : (at new_at : ℕ → Option Timed) (ks : List ℕ) (k : ℕ) (t : Timed) → AreKept at ks → 0 < length ks → k ≡ get_or ks 0 0 → at k ≡ Some t
+pub taken : (at new_at : ℕ → Option TimerImage) (ks : List ℕ) (k : ℕ) (t : TimerImage) → AreKept at ks → 0 < length ks → k ≡ get_or ks 0 0 → at k ≡ Some t
     → ((j : ℕ) → j ≢ k → new_at j ≡ at j) → Taken at new_at ks t
 taken at new_at [] k t kept h e s others = absurd (omega arith)
 taken at new_at (x ∷ ks) k t kept h e s others =
@@ -265,16 +266,16 @@ taken at new_at (x ∷ ks) k t kept h e s others =
     }
 
 -- what holds of a value holds of an answer that has it
-pub some_is : (r : Option Timed) (t : Timed) (P : Timed → Type 0) → r ≡ Some t → P t → IfSome r P
-some_is r t P e p = (let Q : Option Timed → Type 0 = λ o. IfSome o P in subst Q (sym e) p)
+pub some_is : (r : Option TimerImage) (t : TimerImage) (P : TimerImage → Type 0) → r ≡ Some t → P t → IfSome r P
+some_is r t P e p = (let Q : Option TimerImage → Type 0 = λ o. IfSome o P in subst Q (sym e) p)
 
 -- ---- the timers
 
-abbrev pub timers : List Timed → ℕ → TimersOf
+abbrev pub timers : List TimerImage → ℕ → TimersOf
 timers ss spare = record { sends = ss; spare = spare }
 
 -- timers with equal sends and equal room are equal
-pub same_timers : (ss ts : List Timed) (spare : ℕ) → ss ≡ ts → timers ss spare ≡ timers ts spare
+pub same_timers : (ss ts : List TimerImage) (spare : ℕ) → ss ≡ ts → timers ss spare ≡ timers ts spare
 same_timers ss ts spare e = ap (λ xs. timers xs spare) e
 
 -- a test of two numbers decides between what follows from either outcome

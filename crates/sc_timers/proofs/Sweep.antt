@@ -5,8 +5,8 @@ use Rattle.std.proofs.lemmas.List.{take_more, take_all}
 use Rattle.std.proofs.lemmas.List.Sums.{sum_by-append}
 use Rattle.std.proofs.lemmas.Option.{get_or_from_slice_get}
 use Rattle.std.specs.Prelude.{is_some, slice_get, count_by}
-use Rattle.sc_timers.specs.declared.timed.Timed.{Timed}
-use Rattle.sc_timers.specs.Sends.{IsBeforeAll, IsInDueOrder}
+use Rattle.sc_types.specs.declared.host.TimerImage.{TimerImage}
+use Rattle.sc_types.specs.Sends.{IsBeforeAll, IsInDueOrder}
 use Rattle.sc_timers.specs.Order.{sends_at, AreFull, IsAway, AreDistinct, AreKept, unless, AreSwept}
 use Rattle.sc_timers.proofs.SendLemmas.{slice_get-sends, length-sends, full_some, sends-cons}
 
@@ -26,7 +26,7 @@ distinct-at (k ∷ ks) (suc i) (suc j) d a b n = distinct-at ks i j d.1 (omega a
 
 -- ---- the walk
 
-counted-more : (test : Timed → Bool) (ss : List Timed) (i : ℕ) (s : Timed) → i < length ss → slice_get ss i ≡ Some s
+counted-more : (test : TimerImage → Bool) (ss : List TimerImage) (i : ℕ) (s : TimerImage) → i < length ss → slice_get ss i ≡ Some s
     → count_by test (take (i + 1) ss) ≡ count_by test (take i ss) + cond (test s) 1 0
 counted-more test ss i s b e =
     ap (count_by test) (take_more ss i s b)
@@ -35,7 +35,7 @@ counted-more test ss i s b e =
     ∙ (let one : 0 + cond (test s) 1 0 ≡ cond (test s) 1 0 = omega arith in ap (λ n. count_by test (take i ss) + n) one)
 
 -- at the next key the count grows where its send passes the test
-counted-next : (test : Timed → Bool) (at : ℕ → Option Timed) (keys : List ℕ) (i count : ℕ) (s : Timed) (v : Bool) → AreFull at keys → i < length keys
+counted-next : (test : TimerImage → Bool) (at : ℕ → Option TimerImage) (keys : List ℕ) (i count : ℕ) (s : TimerImage) (v : Bool) → AreFull at keys → i < length keys
     → at (get_or keys i 0) ≡ Some s → test s ≡ v → count ≡ count_by test (take i (sends_at at keys))
     → count + cond v 1 0 ≡ count_by test (take (i + 1) (sends_at at keys))
 counted-next test at keys i count s v full b e t c =
@@ -44,14 +44,14 @@ counted-next test at keys i count s v full b e t c =
     ∙ sym (counted-more test (sends_at at keys) i s within (slice_get-sends at keys i full b ∙ e))
 
 -- the first i keys are done
-pub record Sweeps (test : Timed → Bool) (at now_at : ℕ → Option Timed) (keys : List ℕ) (i count : ℕ) : Type 0 where
+pub record Sweeps (test : TimerImage → Bool) (at now_at : ℕ → Option TimerImage) (keys : List ℕ) (i count : ℕ) : Type 0 where
   pub done : (j : ℕ) → j < i → j < length keys → now_at (get_or keys j 0) ≡ unless test (at (get_or keys j 0))
   pub left : (j : ℕ) → i ≤ j → j < length keys → now_at (get_or keys j 0) ≡ at (get_or keys j 0)
   pub counted : count ≡ count_by test (take i (sends_at at keys))
   pub small : count ≤ i
 
 -- before the first key nothing is taken out
-pub sweep-starts : (test : Timed → Bool) (at : ℕ → Option Timed) (keys : List ℕ) → Sweeps test at at keys 0 0
+pub sweep-starts : (test : TimerImage → Bool) (at : ℕ → Option TimerImage) (keys : List ℕ) → Sweeps test at at keys 0 0
 sweep-starts test at keys = record {
   done = λ j a b. absurd (omega arith);
   left = λ j a b. refl;
@@ -59,14 +59,14 @@ sweep-starts test at keys = record {
   small = omega arith;
 }
 
-unless-no : (test : Timed → Bool) (o : Option Timed) (s : Timed) → o ≡ Some s → test s ≡ false → o ≡ unless test o
+unless-no : (test : TimerImage → Bool) (o : Option TimerImage) (s : TimerImage) → o ≡ Some s → test s ≡ false → o ≡ unless test o
 unless-no test o s e t = e ∙ sym (ap (unless test) e ∙ ap (λ v. cond v None (Some s)) t)
 
-unless-yes : (test : Timed → Bool) (o : Option Timed) (s : Timed) → o ≡ Some s → test s ≡ true → None ≡ unless test o
+unless-yes : (test : TimerImage → Bool) (o : Option TimerImage) (s : TimerImage) → o ≡ Some s → test s ≡ true → None ≡ unless test o
 unless-yes test o s e t = sym (ap (unless test) e ∙ ap (λ v. cond v None (Some s)) t)
 
 -- a send that fails the test stays under its key
-pub sweep-keeps : (test : Timed → Bool) (at now_at : ℕ → Option Timed) (keys : List ℕ) (i count : ℕ) (s : Timed) → AreFull at keys
+pub sweep-keeps : (test : TimerImage → Bool) (at now_at : ℕ → Option TimerImage) (keys : List ℕ) (i count : ℕ) (s : TimerImage) → AreFull at keys
     → Sweeps test at now_at keys i count → i < length keys → now_at (get_or keys i 0) ≡ Some s → test s ≡ false → Sweeps test at now_at keys (i + 1) count
 sweep-keeps test at now_at keys i count s full w b e t =
     let was : at (get_or keys i 0) ≡ Some s = sym (w.left i (omega arith) b) ∙ e in
@@ -83,7 +83,7 @@ sweep-keeps test at now_at keys i count s full w b e t =
     }
 
 -- a send that passes the test is taken out and counted
-pub sweep-takes : (test : Timed → Bool) (at now_at new_at : ℕ → Option Timed) (keys : List ℕ) (i count : ℕ) (s : Timed) → AreKept at keys
+pub sweep-takes : (test : TimerImage → Bool) (at now_at new_at : ℕ → Option TimerImage) (keys : List ℕ) (i count : ℕ) (s : TimerImage) → AreKept at keys
     → Sweeps test at now_at keys i count → i < length keys → now_at (get_or keys i 0) ≡ Some s → test s ≡ true
     → new_at (get_or keys i 0) ≡ None → ((k : ℕ) → k ≢ get_or keys i 0 → new_at k ≡ now_at k) → Sweeps test at new_at keys (i + 1) (count + 1)
 sweep-takes test at now_at new_at keys i count s kept w b e t gone others =
@@ -100,18 +100,18 @@ sweep-takes test at now_at new_at keys i count s kept w b e t gone others =
       small = omega (arith, w.small);
     }
 
-swept-from : (test : Timed → Bool) (at now_at : ℕ → Option Timed) (keys : List ℕ)
+swept-from : (test : TimerImage → Bool) (at now_at : ℕ → Option TimerImage) (keys : List ℕ)
     → ((j : ℕ) → j < length keys → now_at (get_or keys j 0) ≡ unless test (at (get_or keys j 0))) → AreSwept test at now_at keys
 swept-from test at now_at [] h = tt
 swept-from test at now_at (k ∷ ks) h = (h 0 (omega arith), swept-from test at now_at ks (λ j b. h (suc j) (omega arith)))
 
 -- after the last key exactly the sends that pass are taken out
-pub sweep-ends : (test : Timed → Bool) (at now_at : ℕ → Option Timed) (keys : List ℕ) (i count : ℕ) → Sweeps test at now_at keys i count → length keys ≤ i
+pub sweep-ends : (test : TimerImage → Bool) (at now_at : ℕ → Option TimerImage) (keys : List ℕ) (i count : ℕ) → Sweeps test at now_at keys i count → length keys ≤ i
     → AreSwept test at now_at keys
 sweep-ends test at now_at keys i count w h = swept-from test at now_at keys (λ j b. w.done j (omega arith) b)
 
 -- after the last key the count is that of the sends that passed
-pub sweep-count : (test : Timed → Bool) (at now_at : ℕ → Option Timed) (keys : List ℕ) (i count : ℕ) → AreFull at keys → Sweeps test at now_at keys i count → length keys ≤ i
+pub sweep-count : (test : TimerImage → Bool) (at now_at : ℕ → Option TimerImage) (keys : List ℕ) (i count : ℕ) → AreFull at keys → Sweeps test at now_at keys i count → length keys ≤ i
     → count ≡ count_by test (sends_at at keys)
 sweep-count test at now_at keys i count full w h =
     w.counted ∙ ap (count_by test) (take_all i (sends_at at keys) (omega (arith, length-sends at keys full)))
@@ -119,7 +119,7 @@ sweep-count test at now_at keys i count full w h =
 -- ---- the keys that are left
 
 -- the sends of the keys that are left are those that failed the test
-pub sends-left : (test : Timed → Bool) (at new_at : ℕ → Option Timed) (ks : List ℕ) → AreFull at ks → AreSwept test at new_at ks
+pub sends-left : (test : TimerImage → Bool) (at new_at : ℕ → Option TimerImage) (ks : List ℕ) → AreFull at ks → AreSwept test at new_at ks
     → sends_at new_at (filter (λ k. is_some (new_at k)) ks) ≡ filter (λ s. not (test s)) (sends_at at ks)
 sends-left test at new_at [] f w = refl
 sends-left test at new_at (k ∷ ks) f w =
@@ -127,7 +127,7 @@ sends-left test at new_at (k ∷ ks) f w =
     by (test first.0) first.0 refl (w.0 ∙ ap (unless test) first.1) (sends-left test at new_at ks f.1 w.1)
     ∙ ap (filter (λ s. not (test s))) (sym (sends-cons at k ks first.0 first.1))
   where
-    by : (v : Bool) (s : Timed) → test s ≡ v → new_at k ≡ unless test (Some s)
+    by : (v : Bool) (s : TimerImage) → test s ≡ v → new_at k ≡ unless test (Some s)
         → sends_at new_at (filter (λ j. is_some (new_at j)) ks) ≡ filter (λ x. not (test x)) (sends_at at ks)
         → sends_at new_at (filter (λ j. is_some (new_at j)) (k ∷ ks)) ≡ filter (λ x. not (test x)) (s ∷ sends_at at ks)
     by true s t e ih =
@@ -140,7 +140,7 @@ sends-left test at new_at (k ∷ ks) f w =
         ∙ sends-cons new_at k (filter (λ j. is_some (new_at j)) ks) s stays
         ∙ ap (λ ss. s ∷ ss) ih ∙ ap (λ v. cond (not v) (s ∷ filter (λ x. not (test x)) (sends_at at ks)) (filter (λ x. not (test x)) (sends_at at ks))) (sym t)
 
-full-left : (at : ℕ → Option Timed) (ks : List ℕ) → AreFull at (filter (λ k. is_some (at k)) ks)
+full-left : (at : ℕ → Option TimerImage) (ks : List ℕ) → AreFull at (filter (λ k. is_some (at k)) ks)
 full-left at [] = tt
 full-left at (k ∷ ks) = by (is_some (at k)) refl (full-left at ks)
   where
@@ -165,7 +165,7 @@ distinct-filter p (k ∷ ks) d = by (p k) (away-filter p k ks d.0) (distinct-fil
     by true a f = (a, f)
     by false a f = f
 
-ahead-filter : (p : Timed → Bool) (t : Timed) (ss : List Timed) → IsBeforeAll t ss → IsBeforeAll t (filter p ss)
+ahead-filter : (p : TimerImage → Bool) (t : TimerImage) (ss : List TimerImage) → IsBeforeAll t ss → IsBeforeAll t (filter p ss)
 ahead-filter p t [] a = tt
 ahead-filter p t (s ∷ ss) a = by (p s) (ahead-filter p t ss a.1)
   where
@@ -173,7 +173,7 @@ ahead-filter p t (s ∷ ss) a = by (p s) (ahead-filter p t ss a.1)
     by true f = (a.0, f)
     by false f = f
 
-ordered-filter : (p : Timed → Bool) (ss : List Timed) → IsInDueOrder ss → IsInDueOrder (filter p ss)
+ordered-filter : (p : TimerImage → Bool) (ss : List TimerImage) → IsInDueOrder ss → IsInDueOrder (filter p ss)
 ordered-filter p [] h = tt
 ordered-filter p (s ∷ ss) h = by (p s) (ahead-filter p s ss h.0) (ordered-filter p ss h.1)
   where
@@ -182,7 +182,7 @@ ordered-filter p (s ∷ ss) h = by (p s) (ahead-filter p s ss h.0) (ordered-filt
     by false a f = f
 
 -- the keys that are left are kept in order, each with a send
-pub kept-left : (test : Timed → Bool) (at new_at : ℕ → Option Timed) (ks : List ℕ) → AreKept at ks → AreSwept test at new_at ks
+pub kept-left : (test : TimerImage → Bool) (at new_at : ℕ → Option TimerImage) (ks : List ℕ) → AreKept at ks → AreSwept test at new_at ks
     → AreKept new_at (filter (λ k. is_some (new_at k)) ks)
 kept-left test at new_at ks kept w = record {
   full = full-left new_at ks;

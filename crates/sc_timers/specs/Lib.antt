@@ -1,2 +1,2 @@
 pub mod Order
-pub mod Sends
+pub mod Timers

@@ -1,15 +1,15 @@
 -- How the sends are kept: in a slab, and their keys in due order.
 use Rattle.std.specs.Prelude.{◌≡◌, ◌≢◌, ℕ, ◌<◌, ◌≤◌, length, slice_index, Bool, if◌then◌else◌, Option, None, Some, IsSome, List, [], ◌∷◌}
 use Rattle.std.specs.List.{filter_map}
-use Rattle.sc_timers.specs.declared.timed.Timed.{Timed}
-use Rattle.sc_timers.specs.Sends.{IsInDueOrder}
+use Rattle.sc_types.specs.declared.host.TimerImage.{TimerImage}
+use Rattle.sc_types.specs.Sends.{IsInDueOrder}
 
 -- the sends at the keys
-abbrev pub sends_at : (ℕ → Option Timed) → List ℕ → List Timed
+abbrev pub sends_at : (ℕ → Option TimerImage) → List ℕ → List TimerImage
 sends_at at keys = filter_map at keys
 
 -- each key has a send
-abbrev pub AreFull : (ℕ → Option Timed) → List ℕ → Type 0
+abbrev pub AreFull : (ℕ → Option TimerImage) → List ℕ → Type 0
 AreFull at [] = Unit {0}
 AreFull at (k ∷ ks) = IsSome (at k) × AreFull at ks
 
@@ -24,7 +24,7 @@ AreDistinct [] = Unit {0}
 AreDistinct (k ∷ ks) = IsAway k ks × AreDistinct ks
 
 -- keys that are distinct, each with a send, in due order
-pub record AreKept (at : ℕ → Option Timed) (keys : List ℕ) : Type 0 where
+pub record AreKept (at : ℕ → Option TimerImage) (keys : List ℕ) : Type 0 where
   pub full : AreFull at keys
   pub distinct : AreDistinct keys
   pub ordered : IsInDueOrder (sends_at at keys)
@@ -36,11 +36,11 @@ pub record IsPlaceAfter (dues : List ℕ) (d place : ℕ) : Type 0 where
   pub behind : (i : ℕ) → place ≤ i → i < length dues → d < slice_index dues i
 
 -- what is left of a send once those that pass the test are gone
-abbrev pub unless : (Timed → Bool) → Option Timed → Option Timed
+abbrev pub unless : (TimerImage → Bool) → Option TimerImage → Option TimerImage
 unless test None = None
 unless test (Some s) = if test s then None else Some s
 
 -- at each key, the send is gone where it passes the test
-abbrev pub AreSwept : (Timed → Bool) → (ℕ → Option Timed) → (ℕ → Option Timed) → List ℕ → Type 0
+abbrev pub AreSwept : (TimerImage → Bool) → (ℕ → Option TimerImage) → (ℕ → Option TimerImage) → List ℕ → Type 0
 AreSwept test at new_at [] = Unit {0}
 AreSwept test at new_at (k ∷ ks) = (new_at k ≡ unless test (at k)) × AreSwept test at new_at ks

@@ -3,7 +3,7 @@ ghost use Rattle.std.specs.VecDeque.{deque_capacity, deque_len};
 ghost use Rattle.std.specs.Option.{option_map};
 ghost use Rattle.slab.specs.Slab.{get as send_at, slab_len, Updates};
 ghost use Rattle.std.specs.Bool.{MatchBool};
-ghost use Rattle.sc_timers.specs.Sends.{is_picked, IsBeforeAll};
+ghost use Rattle.sc_types.specs.Sends.{is_picked, IsBeforeAll};
 ghost use Rattle.sc_timers.specs.Order.{sends_at, AreKept, AreSwept, IsPlaceAfter};
 
 use crate::timed::{Pick, Timed, is_picked};

@@ -1,21 +1,8 @@
 ghost use Rattle.std.specs.Prelude.{◌≡◌, List, ℕ, Option, map};
 ghost use Rattle.std.specs.Option.{option_map};
-ghost use Rattle.sc_timers.specs.Sends.{is_of, is_picked};
+ghost use Rattle.sc_types.specs.Sends.{is_of, is_picked};
 
-use sc_types::{Event, To, Word};
-
-/// A delayed send that is pending.
-#[derive(Debug, Drop)]
-pub struct Timed {
-    /// The session that sent it.
-    pub session: Word,
-    /// Each send has a number of its own; a later one has a larger one.
-    pub number: u64,
-    /// In milliseconds of the host's clock.
-    pub due: u64,
-    pub event: Event,
-    pub to: To,
-}
+pub use sc_types::TimerImage as Timed;
 
 /// The sends of a session, all or those with one id.
 #[derive(Clone, Copy)]

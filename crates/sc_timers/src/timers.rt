@@ -1,10 +1,10 @@
 ghost use Rattle.std.specs.Prelude.{◌≡◌, ◌-◌, ◌<◌, ◌≤◌, ℕ, Option, Some, OnOk, OnErr, IfNone, IfSome, All, [], ◌∷◌, not, filter, count_by, slice_get};
 ghost use Rattle.std.specs.Option.{option_copied};
-ghost use Rattle.sc_timers.specs.Sends.{with_send, is_of, is_send, IsBeforeAll, IsInDueOrder};
+ghost use Rattle.sc_types.specs.Sends.{with_send, is_of, is_send, IsBeforeAll, IsInDueOrder};
 
 use crate::order::{is_due, place_after, remove_picked, send_in, take_first};
 use crate::timed::{Pick, Timed};
-use sc_types::NoMemory;
+use sc_base::NoMemory;
 use slab::Slab;
 use std::alloc::Global;
 use std::collections::VecDeque;
@@ -23,9 +23,9 @@ impl Model for Timers {
     ghost use Rattle.std.specs.Prelude.{ℕ, ◌+◌, ◌≤◌};
     ghost use Rattle.std.specs.VecDeque.{deque_len, deque_capacity};
     ghost use Rattle.slab.specs.Slab.{get as send_at, HasRoomFor};
-    ghost use Rattle.sc_timers.specs.Sends.{TimersOf};
+    ghost use Rattle.sc_timers.specs.Timers.{TimersOf};
     ghost use Rattle.sc_timers.specs.Order.{sends_at, AreKept};
-    ghost use Rattle.sc_timers.specs.contracts.timed.Timed as timed;
+    ghost use Rattle.sc_types.specs.contracts.host.TimerImage as timed;
     ghost use Rattle.std.specs.Coded.{codes};
 
     ghost Value = { TimersOf };

@@ -2,7 +2,7 @@
 use Rattle.std.proofs.Common.{◌≡◌, ℕ, List, ◌∷◌, ◌++◌, IsTrue, Result, Ok, Err, IfOk, refl, sym, ap, subst, ◌∙◌, arith, append_assoc}
 use Rattle.std.specs.Prelude.{codes}
 use Rattle.std.proofs.lemmas.List.{append_cancel_left, append-nil}
-use Rattle.sc_types.specs.Text.{IsWord, IsPlainName}
+use Rattle.sc_base.specs.Text.{IsWord, IsPlainName}
 use Rattle.sc_types.specs.declared.command.Command.TheVariants.{Install, Start}
 use Rattle.sc_law.specs.Lines.{command_text}
 use Rattle.sc_top.specs.FirstForm.{lacks, IsShortName, IsChartText, post_of}

@@ -6,7 +6,7 @@ use Rattle.std.proofs.lemmas.Bool.Decides.{nat_tests}
 use Rattle.std.proofs.lemmas.List.Folds.{list_all-append}
 use Rattle.std.proofs.lemmas.Str.{IsUtf8-from_ascii}
 use Rattle.std.proofs.lemmas.Str.Ascii.{IsAscii-nil, IsAscii-cons}
-use Rattle.sc_types.specs.Text.{is_name_byte, is_letter, is_digit, starts_with_letter, IsWord, IsPlainName}
+use Rattle.sc_base.specs.Text.{is_name_byte, is_letter, is_digit, starts_with_letter, IsWord, IsPlainName}
 use Rattle.sc_top.specs.FirstForm.{lacks}
 
 both : (a b : Bool) → (a && b) ≡ true → (a ≡ true) × (b ≡ true)

@@ -3,7 +3,7 @@ use Rattle.std.proofs.Common.{◌≡◌, ℕ, ◌<◌, List, [], ◌∷◌, ◌+
 use Rattle.std.proofs.lemmas.List.{append-nil, map-append}
 use Rattle.std.proofs.lemmas.List.Elements.{All-head, All-tail}
 use Rattle.std.proofs.lemmas.Grind.{flat_map-append}
-use Rattle.sc_types.specs.Text.{IsWord, IsPlainName}
+use Rattle.sc_base.specs.Text.{IsWord, IsPlainName}
 use Rattle.sc_types.specs.declared.command.Command.{Command}
 use Rattle.sc_law.specs.Lines.{line, command_text}
 use Rattle.sc_top.specs.FirstForm.{post_of}

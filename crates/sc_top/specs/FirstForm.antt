@@ -3,7 +3,7 @@
 use Rattle.std.specs.Prelude.{ℕ, ◌≡◌, ◌≢◌, ◌<◌, ◌≤◌, ◌-◌, ◌==◌, Bool, not, List, [], ◌∷◌, length, map, slice_index, All, IsTrue, IsSome}
 use Rattle.std.specs.List.{list_all, flat_map}
 use Rattle.sc_law.specs.FlatCharts.{flat_chart_of}
-use Rattle.sc_types.specs.Text.{IsWord, IsPlainName}
+use Rattle.sc_base.specs.Text.{IsWord, IsPlainName}
 use Rattle.sc_types.specs.declared.command.Command.{Command}
 use Rattle.sc_types.specs.declared.command.Command.TheVariants.{Install, Start, Post}
 use Rattle.sc_law.specs.Lines.{line, command_text}

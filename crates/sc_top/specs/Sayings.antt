@@ -24,8 +24,8 @@ abbrev pub text_of : Saying → List ℕ
 text_of OtherWords = codes "words\n"
 text_of ReadFault = codes "read\n"
 text_of NoScript = codes "not-built\n"
-text_of (Done text) = text.items
-text_of (Faulty text) = text.items
+text_of (Done text) = text
+text_of (Faulty text) = text
 
 -- of a text that should be a script
 pub data SaysOfScript (text : List ℕ) : ℕ → List ℕ → Type 0 where

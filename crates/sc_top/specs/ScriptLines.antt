@@ -1,7 +1,7 @@
 -- The lines of a script of the first form one by one, as the parts of its reader find them.
 use Rattle.std.specs.Prelude.{ℕ, ◌≡◌, List, ◌∷◌, ◌++◌, All, IsTrue}
 use Rattle.std.specs.List.{flat_map}
-use Rattle.sc_types.specs.Text.{IsPlainName}
+use Rattle.sc_base.specs.Text.{IsPlainName}
 use Rattle.sc_types.specs.declared.command.Command.TheVariants.{Install, Start}
 use Rattle.sc_law.specs.Lines.{line, command_text}
 use Rattle.sc_top.specs.FirstForm.{lacks, IsShortName, IsChartText, post_of}

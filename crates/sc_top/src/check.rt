@@ -1,17 +1,18 @@
 ghost use Rattle.std.specs.Prelude.{◌≡◌, ◌+◌, ◌++◌, Ok, Err, IfOk, OnOk, if◌then◌else◌, decimal, codes};
 ghost use Rattle.sc_types.specs.declared.chart.ChartFault.{ChartFault};
 ghost use Rattle.sc_types.specs.ChartTexts.{states_in, count_states};
-ghost use Rattle.sc_types.specs.Elements.{is_state};
+ghost use Rattle.sc_types.specs.Elements.{is_numbered};
 ghost use Rattle.sc_law.specs.LegalCharts.{legal_chart_of};
 ghost use Rattle.sc_law.specs.Lines.{line};
 ghost use Rattle.sc_law.specs.Report.{fault_text};
 ghost use Rattle.sc_top.specs.Sayings.{status_of, text_of, check_status, check_text};
 
-use crate::report::lines::{end_line, put, put_counted};
+use crate::report::lines::put_counted;
 use crate::report::replies::put_fault;
 use crate::saying::Saying;
 use sc_chart_json::read_chart;
-use sc_types::{Chart, ChartFault, ChartRefusal, NoMemory, Node, Tag};
+use sc_base::{Bytes, NoMemory, TextWriter};
+use sc_types::{Chart, ChartFault, ChartRefusal, Node, Tag};
 use sc_valid::{LegalChart, validate};
 use std::alloc::Global;
 
@@ -37,23 +38,23 @@ fn read_legal_chart(alloc: Global, text: &[u8]) -> Result<LegalChart, ChartRefus
     }
 }
 
-fn chart_line(alloc: Global, chart: &Chart) -> Result<Vec<u8>, NoMemory>
-    ensures { IfOk result (λ v. v.items ≡ line (codes "ok " ++ decimal (count_states chart.now))) }
+fn chart_line(alloc: Global, chart: &Chart) -> Result<Bytes, NoMemory>
+    ensures { IfOk result (λ text. text ≡ line (codes "ok " ++ decimal (count_states chart.now))) }
 {
-    let mut out = Vec::new(alloc);
+    let mut out = TextWriter::new(alloc);
     let count = states_in(&chart.root)?;
-    put_counted(alloc, &mut out, b"ok ", u128::from(count))?;
-    Ok(out)
+    put_counted(&mut out, b"ok ", u128::from(count))?;
+    Ok(out.into_bytes())
 }
 
-fn fault_line(alloc: Global, fault: &ChartFault) -> Result<Vec<u8>, NoMemory>
-    ensures { IfOk result (λ v. v.items ≡ line (codes "chart " ++ fault_text fault.now)) }
+fn fault_line(alloc: Global, fault: &ChartFault) -> Result<Bytes, NoMemory>
+    ensures { IfOk result (λ text. text ≡ line (codes "chart " ++ fault_text fault.now)) }
 {
-    let mut out = Vec::new(alloc);
-    put(&mut out, b"chart ")?;
-    put_fault(alloc, &mut out, fault)?;
-    end_line(&mut out)?;
-    Ok(out)
+    let mut out = TextWriter::new(alloc);
+    out.text("chart ")?;
+    put_fault(&mut out, fault)?;
+    out.end_line()?;
+    Ok(out.into_bytes())
 }
 
 /// How many states an element and those below it are, with parallels, finals and histories.
@@ -69,9 +70,9 @@ fn states_in(node: &Node) -> Result<u64, NoMemory>
 }
 
 fn states_at(tag: Tag) -> u64
-    ensures { result ≡ (if is_state tag then 1 else 0) }
+    ensures { result ≡ (if is_numbered tag then 1 else 0) }
 {
-    if tag.is_state() { 1 } else { 0 }
+    if tag.is_numbered() { 1 } else { 0 }
 }
 
 /// The sum of two counts of states. A chart with 2^64 states is larger than any memory.

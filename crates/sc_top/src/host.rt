@@ -1,7 +1,7 @@
 ghost use Rattle.std.specs.Prelude.{◌≡◌, ◌+◌, ◌^◌, ◌<◌, [], Some, option_map, is_some, find, unwrap_or, slice_get, IfSome, IfOk, OnOk, length};
 ghost use Rattle.std.specs.Option.{option_copied};
 ghost use Rattle.sc_law.specs.Host.{empty_host, has_chart, chart_place, chart_named, bare_chart, session_place, session_named, not_read, fresh_state, fresh_session, has_slash, pairs_data, posted_event, waiting_cue, cue_of, name_of, queue_left, queue_of_phase, ready};
-ghost use Rattle.sc_law.specs.Turn.{turn};
+ghost use Rattle.sc_law.specs.Flat.Turn.{turn};
 
 use crate::flat::read_flat_chart;
 use sc_law::{Tree, TurnResult, turn};
@@ -80,8 +80,8 @@ impl Host {
         };
         self.trees.push(Tree::new(alloc, chart)?)?;
         self.image.charts.push(ChartImage {
-            name: name.copy(alloc)?,
-            text: text.copy(alloc)?,
+            name: name.copy()?,
+            text: text.copy()?,
         })?;
         self.image.commands += 1;
         Ok(Answered::new(alloc, Reply::Installed, Sequence::new(alloc)))
@@ -135,7 +135,7 @@ impl Host {
             return Ok(refused(alloc, Refusal::NoSession));
         };
         if let Phase::Ended(how) = &found.state.phase {
-            return Ok(refused(alloc, Refusal::Ended(how.copy(alloc)?)));
+            return Ok(refused(alloc, Refusal::Ended(how.copy()?)));
         }
         let number = self.image.events + 1;
         let event = posted_event(alloc, number, name, pairs)?;
@@ -156,7 +156,7 @@ impl Host {
             return Ok(refused(alloc, Refusal::NoSession));
         };
         if let Phase::Ended(how) = &found.state.phase {
-            return Ok(refused(alloc, Refusal::Ended(how.copy(alloc)?)));
+            return Ok(refused(alloc, Refusal::Ended(how.copy()?)));
         }
         let Some(cue) = cue_of(alloc, found)? else {
             return Ok(refused(alloc, Refusal::Idle));
@@ -220,7 +220,7 @@ impl Host {
         ensures { IfOk result (λ r. r ≡ ready self.now.image) }
     {
         match first_ready(&self.image) {
-            Some(session) => Ok(Some(session.state.session.copy(alloc)?)),
+            Some(session) => Ok(Some(session.state.session.copy()?)),
             None => Ok(None),
         }
     }
@@ -282,7 +282,7 @@ fn waiting_cue(alloc: Global, internal: &[Event], queued: &[Event]) -> Result<Op
 {
     match (internal, queued) {
         ([], []) => Ok(None),
-        ([], [front, ..]) => Ok(Some(Cue::External(front.copy(alloc)?))),
+        ([], [front, ..]) => Ok(Some(Cue::External(front.copy()?))),
         ([_, ..], _) => Ok(Some(Cue::Resume)),
     }
 }
@@ -293,6 +293,7 @@ fn name_of(cue: &Cue) -> CueName
     match cue {
         Cue::Fresh => CueName::Fresh,
         Cue::Resume => CueName::Resume,
+        Cue::Cancel => CueName::Cancel,
         Cue::External(event) => CueName::External(event.number),
     }
 }
@@ -377,8 +378,8 @@ fn fresh_state(alloc: Global, session: &Word, chart: &Word) -> Result<SessionSta
     ensures { IfOk result (λ s. s ≡ fresh_state session.now chart.now) }
 {
     Ok(SessionState {
-        session: session.copy(alloc)?,
-        chart: chart.copy(alloc)?,
+        session: session.copy()?,
+        chart: chart.copy()?,
         phase: Phase::Fresh,
         configuration: Sequence::new(alloc),
         values: Sequence::new(alloc),
@@ -411,7 +412,7 @@ fn pairs_data(alloc: Global, pairs: &PairList) -> Result<Data, NoMemory>
     if pairs.is_empty() {
         return Ok(Data::Absent);
     }
-    Ok(Data::Pairs(pairs.copy(alloc)?))
+    Ok(Data::Pairs(pairs.copy()?))
 }
 
 fn posted_event(

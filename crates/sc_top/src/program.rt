@@ -14,7 +14,8 @@ use crate::run::run_script;
 use crate::saying::Saying;
 use crate::script_reader::{ScriptRefusal, read_script};
 use sc_dev::{ReadFault, Sink, Source, read_up_to, write_all};
-use sc_types::{Command, NoMemory};
+use sc_base::{Bytes, NoMemory};
+use sc_types::Command;
 use std::alloc::Global;
 
 /// The statuses that say nothing of their own.
@@ -150,9 +151,9 @@ fn run_text(alloc: Global, text: &[u8]) -> Result<Saying, NoMemory>
 }
 
 /// Runs the commands that a text spells, and reports.
-fn report_run(alloc: Global, text: &[u8], commands: &[Command]) -> Result<Vec<u8>, NoMemory>
+fn report_run(alloc: Global, text: &[u8], commands: &[Command]) -> Result<Bytes, NoMemory>
     requires { IsFirstForm text.now commands.now }
-    ensures { IfOk result (λ v. Reports text.now v.items) }
+    ensures { IfOk result (λ report. Reports text.now report) }
 {
     let run = run_script(alloc, commands, STEP_BUDGET)?;
     let report = report_of(alloc, &run.host, run.history.slice(), 0, b"quiet")?;

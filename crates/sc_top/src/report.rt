@@ -10,9 +10,10 @@ mod sessions;
 
 use crate::host::Host;
 use crate::report::entries::put_entries;
-use crate::report::lines::{end_line, put, put_counted, put_number};
+use crate::report::lines::put_counted;
 use crate::report::sessions::put_sessions;
-use sc_types::{Entry, HostImage, NoMemory};
+use sc_base::{Bytes, NoMemory, TextWriter};
+use sc_types::{Entry, HostImage};
 use std::alloc::Global;
 
 /// The report of a run: how many commands were journaled at the opening, what was done since, the host at the
@@ -23,36 +24,35 @@ pub(crate) fn report_of(
     history: &[Entry],
     opened: u64,
     end: &[u8],
-) -> Result<Vec<u8>, NoMemory>
+) -> Result<Bytes, NoMemory>
     requires { IsHeld host.now }
-    ensures { IfOk result (λ text. text.items ≡ report opened host.now.image history.now end.now) }
+    ensures { IfOk result (λ text. text ≡ report opened host.now.image history.now end.now) }
 {
-    let mut out = Vec::new(alloc);
-    put_counted(alloc, &mut out, b"open ", u128::from(opened))?;
-    put_entries(alloc, &mut out, history)?;
+    let mut out = TextWriter::new(alloc);
+    put_counted(&mut out, b"open ", u128::from(opened))?;
+    put_entries(&mut out, history)?;
     put_counted(
-        alloc,
         &mut out,
         b"sessions ",
         host.image.sessions.len() as u128,
     )?;
-    put_sessions(alloc, &mut out, host)?;
-    put_clock(alloc, &mut out, &host.image)?;
-    put(&mut out, b"end ")?;
-    put(&mut out, end)?;
-    end_line(&mut out)?;
-    Ok(out)
+    put_sessions(&mut out, host)?;
+    put_clock(&mut out, &host.image)?;
+    out.text("end ")?;
+    out.bytes(end)?;
+    out.end_line()?;
+    Ok(out.into_bytes())
 }
 
-fn put_clock(alloc: Global, out: &mut Vec<u8>, image: &HostImage) -> Result<(), NoMemory>
-    ensures { OnOk result (out.new.items
-        ≡ out.old.items
+fn put_clock(out: &mut TextWriter, image: &HostImage) -> Result<(), NoMemory>
+    ensures { OnOk result (out.new
+        ≡ out.old
         ++ line (codes "clock " ++ decimal image.now.clock
         ++ codes " timers " ++ decimal (length image.now.timers))) }
 {
-    put(out, b"clock ")?;
-    put_number(alloc, out, u128::from(image.clock))?;
-    put(out, b" timers ")?;
-    put_number(alloc, out, image.timers.len() as u128)?;
-    end_line(out)
+    out.text("clock ")?;
+    out.number(u128::from(image.clock))?;
+    out.text(" timers ")?;
+    out.number(image.timers.len() as u128)?;
+    out.end_line()
 }

@@ -81,7 +81,7 @@ pub(crate) fn run_script(alloc: Global, commands: &[Command], budget: u64) -> Re
     let mut run = Run::new(alloc, budget);
     run.step_all(alloc)?;
     for command in commands {
-        run.make(alloc, Who::Client(0), command.copy(alloc)?)?;
+        run.make(alloc, Who::Client(0), command.copy()?)?;
         run.step_all(alloc)?;
     }
     Ok(run)

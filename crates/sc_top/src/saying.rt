@@ -1,6 +1,8 @@
 ghost use Rattle.std.specs.Prelude.{◌≡◌, ◌≢◌};
 ghost use Rattle.sc_top.specs.Sayings.{status_of, text_of};
 
+use sc_base::Bytes;
+
 /// What the program has to say.
 #[derive(Debug, Drop)]
 pub(crate) enum Saying {
@@ -10,9 +12,9 @@ pub(crate) enum Saying {
     /// The text is no script of the first form.
     NoScript,
     /// A report, or that a text is a chart.
-    Done(Vec<u8>),
+    Done(Bytes),
     /// The first fault of a chart's text.
-    Faulty(Vec<u8>),
+    Faulty(Bytes),
 }
 
 /// The statuses of the program.
@@ -47,8 +49,8 @@ impl Saying {
             Saying::OtherWords => b"words\n",
             Saying::ReadFault => b"read\n",
             Saying::NoScript => b"not-built\n",
-            Saying::Done(text) => text.as_slice(),
-            Saying::Faulty(text) => text.as_slice(),
+            Saying::Done(text) => text.slice(),
+            Saying::Faulty(text) => text.slice(),
         }
     }
 }

@@ -1,6 +1,6 @@
 ghost use Rattle.std.specs.Prelude.{◌≡◌, ◌≢◌, ◌==◌, ◌++◌, [], ◌∷◌, ℕ, List, IfOk, MatchOption, IsTrue, ◌↔◌, ◌-◌, map};
 ghost use Rattle.std.specs.List.{position};
-ghost use Rattle.sc_types.specs.Text.{IsWord};
+ghost use Rattle.sc_base.specs.Text.{IsWord};
 ghost use Rattle.sc_types.specs.declared.command.Command.{Command};
 ghost use Rattle.sc_top.specs.FirstForm.{lacks, IsShortName, IsChartText, post_of, IsFirstForm};
 ghost use Rattle.sc_top.specs.ScriptLines.{IsCut, IsChartLine, IsStartLine, IsPostLine, IsPosts};
@@ -58,12 +58,12 @@ fn opening_of(
 {
     let mut commands = Sequence::new(alloc);
     commands.push(Command::Install {
-        name: name.copy(alloc)?,
+        name: name.copy()?,
         chart,
     })?;
     commands.push(Command::Start {
-        session: session.copy(alloc)?,
-        chart: name.copy(alloc)?,
+        session: session.copy()?,
+        chart: name.copy()?,
     })?;
     Ok(commands)
 }
@@ -153,7 +153,7 @@ fn read_post_line(alloc: Global, session: &Word, text: &[u8]) -> Result<Command,
     };
     match Word::of(alloc, event) {
         Ok(event) => Ok(Command::Post {
-            session: session.copy(alloc)?,
+            session: session.copy()?,
             event,
             pairs: Sequence::new(alloc),
         }),

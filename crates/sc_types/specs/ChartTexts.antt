@@ -9,8 +9,10 @@ use Rattle.serde_json.specs.Data.{Data, null, Items, no_items, item, Members, no
 use Rattle.serde_json.specs.Find.{get, as_str, as_array, as_object}
 use Rattle.serde_json.specs.Read.{read}
 use Rattle.sc_types.specs.Descriptors.{pieces}
-use Rattle.sc_types.specs.Elements.{tag_of, is_state, attribute_text, attributes, required, either, form_of, has_form, is_code}
+use Rattle.sc_types.specs.Elements.{tag_of, is_numbered, attribute_text, attributes, required, either, form_of, has_form, is_code}
 use Rattle.sc_types.specs.declared.attribute.Attribute.{Attribute}
+use Rattle.sc_types.specs.declared.faults.TheConstants.{NOT_JSON, NOT_ELEMENT, UNKNOWN_TAG, UNKNOWN_MEMBER, BAD_MEMBER, BAD_EXPR, TOO_DEEP, TOO_MANY, TOO_LARGE}
+use Rattle.sc_types.specs.declared.limits.TheConstants.{CHART_TEXT_LIMIT, LEVEL_LIMIT, STATE_LIMIT}
 use Rattle.sc_types.specs.declared.attribute.Form.{Form}
 use Rattle.sc_types.specs.declared.attribute.Form.TheVariants as form
 use Rattle.sc_types.specs.declared.chart.Chart.{Chart}
@@ -100,26 +102,26 @@ bad_code code_of tag d = find (is_bad_code code_of tag d) (attributes tag)
 
 -- one state more than a chart may have
 abbrev pub many_fault : ℕ → List ℕ → Tag → Option ChartFault
-many_fault before path tag = if is_state tag && nat_le 4096 before then Some (fault 8 path []) else None
+many_fault before path tag = if is_numbered tag && nat_le STATE_LIMIT before then Some (fault TOO_MANY path []) else None
 
 -- what is wrong with an element of a known tag, where so many states stand before it
 abbrev pub tagged_fault : Reading → ℕ → Place → Tag → Option ChartFault
 tagged_fault code_of before p tag =
-    if not (has_known_members tag p.value) then Some (fault 4 p.path [])
-    else if not (has_fit_members tag p.value) then Some (fault 5 p.path [])
-    else option_map_or (λ a. Some (fault 6 p.path (attribute_text a)))
+    if not (has_known_members tag p.value) then Some (fault UNKNOWN_MEMBER p.path [])
+    else if not (has_fit_members tag p.value) then Some (fault BAD_MEMBER p.path [])
+    else option_map_or (λ a. Some (fault BAD_EXPR p.path (attribute_text a)))
     (bad_code code_of tag p.value)
     (many_fault before p.path tag)
 
 -- the first fault of an element itself
 unfoldable pub own_fault : Reading → ℕ → Place → Option ChartFault
 own_fault code_of before p =
-    if is_none (text_at (codes "tag") p.value) then Some (fault 2 p.path [])
-    else if nat_le 40 (length p.path) then Some (fault 7 p.path [])
-    else option_map_or (tagged_fault code_of before p) (tag_at p.value) (Some (fault 3 p.path []))
+    if is_none (text_at (codes "tag") p.value) then Some (fault NOT_ELEMENT p.path [])
+    else if nat_le LEVEL_LIMIT (length p.path) then Some (fault TOO_DEEP p.path [])
+    else option_map_or (tagged_fault code_of before p) (tag_at p.value) (Some (fault UNKNOWN_TAG p.path []))
 
 abbrev pub states_at : Place → ℕ
-states_at p = if option_map_or is_state (tag_at p.value) false then 1 else 0
+states_at p = if option_map_or is_numbered (tag_at p.value) false then 1 else 0
 
 abbrev pub or_else : Option ChartFault → Option ChartFault → Option ChartFault
 or_else None later = later
@@ -129,19 +131,22 @@ abbrev pub first_fault : Reading → ℕ → List Place → Option ChartFault
 first_fault code_of before [] = None
 first_fault code_of before (p ∷ ps) = or_else (own_fault code_of before p) (first_fault code_of (before + states_at p) ps)
 
--- the 41st level is too deep
+-- the levels that are looked at: one more than a chart may have
+abbrev pub levels : ℕ
+levels = LEVEL_LIMIT + 1
+
 unfoldable pub value_fault : Reading → Data → Option ChartFault
-value_fault code_of d = first_fault code_of 0 (places 41 [] d)
+value_fault code_of d = first_fault code_of 0 (places levels [] d)
 
 -- none where `serde_json` reads no value
 abbrev pub json_of : List ℕ → Option Data
 json_of text = if is_utf8 text then read text else None
 
--- the first fault of a text of at most 1 MiB
+-- the first fault of a text
 unfoldable pub fault_of : Reading → List ℕ → Option ChartFault
 fault_of code_of text =
-    if nat_lt 1_048_576 (length text) then Some (fault 9 [] [])
-    else option_map_or (value_fault code_of) (json_of text) (Some (fault 1 [] []))
+    if nat_lt CHART_TEXT_LIMIT (length text) then Some (fault TOO_LARGE [] [])
+    else option_map_or (value_fault code_of) (json_of text) (Some (fault NOT_JSON [] []))
 
 -- the tree, where there is no fault
 
@@ -173,10 +178,10 @@ tagged_tree code_of below d tag = node tag (members_at code_of tag d) (kid_trees
 
 abbrev pub tree : Reading → ℕ → Data → Node
 tree code_of zero d = node Scxml [] []
-tree code_of (suc levels) d = tagged_tree code_of (tree code_of levels) d (unwrap_or (tag_at d) Scxml)
+tree code_of (suc more) d = tagged_tree code_of (tree code_of more) d (unwrap_or (tag_at d) Scxml)
 
 unfoldable pub value_chart : Reading → Data → Chart
-value_chart code_of d = record { root = tree code_of 41 d }
+value_chart code_of d = record { root = tree code_of levels d }
 
 -- what a text spells: a chart, or its first fault
 abbrev pub chart_of : Reading → List ℕ → Result Chart ChartFault
@@ -185,7 +190,7 @@ chart_of code_of text = option_map_or Err (fault_of code_of text) (Ok (value_cha
 -- how many states a chart has, with parallels, finals and histories
 
 abbrev pub state_step : Node-F ℕ → ℕ
-state_step n = (if is_state n.tag then 1 else 0) + sum n.kids
+state_step n = (if is_numbered n.tag then 1 else 0) + sum n.kids
 
 unfoldable pub states_in : Node → ℕ
 states_in n = fold-Node ℕ state_step n

@@ -3,14 +3,15 @@
 use Rattle.std.specs.Prelude.{ℕ, ◌+◌, ◌-◌, ◌*◌, ◌^◌, ◌==◌, Bool, ◌&&◌, nat_eq, nat_le, nat_lt, if◌then◌else◌, Option, Some, None, List, [], ◌∷◌, length, take, drop, codes}
 use Rattle.std.specs.List.{list_all, ends_with, prefix_len}
 use Rattle.std.specs.Str.Parse.{digits_value}
-use Rattle.sc_types.specs.Text.{is_digit}
+use Rattle.sc_base.specs.Text.{is_digit}
+use Rattle.sc_types.specs.declared.limits.TheConstants.{DELAY_LIMIT}
 
 abbrev pub are_digits : List ℕ → Bool
 are_digits text = list_all is_digit text
 
 -- at most 10^12 milliseconds
 abbrev pub limited : ℕ → Option ℕ
-limited delay = if nat_le delay 1_000_000_000_000 then Some delay else None
+limited delay = if nat_le delay DELAY_LIMIT then Some delay else None
 
 abbrev pub milliseconds : List ℕ → Option ℕ
 milliseconds text = if nat_lt 0 (length text) && nat_le (length text) 13 && are_digits text then limited (digits_value 10 text) else None

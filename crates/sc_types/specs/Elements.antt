@@ -6,12 +6,13 @@ use Rattle.std.specs.Str.{bytes_eq}
 use Rattle.std.specs.Str.Parse.{digits_value}
 use Rattle.sc_types.specs.Delays.{are_digits, delay_of}
 use Rattle.sc_types.specs.Descriptors.{is_white_space, pieces}
-use Rattle.sc_types.specs.Text.{is_word, is_plain_name, is_text}
+use Rattle.sc_base.specs.Text.{is_word, is_plain_name, is_text}
 use Rattle.sc_types.specs.declared.attribute.Attribute.{Attribute}
 use Rattle.sc_types.specs.declared.attribute.Attribute.TheVariants as attribute
 use Rattle.sc_types.specs.declared.attribute.Form.{Form}
 use Rattle.sc_types.specs.declared.attribute.Form.TheVariants as form
 use Rattle.sc_types.specs.declared.chart.Tag.{Tag}
+use Rattle.sc_types.specs.declared.limits.TheConstants.{ID_LIMIT, EVENT_NAME_LIMIT, NAME_LIMIT, SEND_TARGET_LIMIT, TYPE_NAME_LIMIT}
 use Rattle.sc_types.specs.declared.chart.Tag.TheVariants as tag
 
 abbrev pub tag_text : Tag → List ℕ
@@ -50,13 +51,20 @@ tags = tag.Scxml ∷ tag.State ∷ tag.Parallel ∷ tag.Final ∷ tag.History �
 abbrev pub tag_of : List ℕ → Option Tag
 tag_of text = find (λ t. bytes_eq (tag_text t) text) tags
 
--- the elements that are counted and numbered as states
+-- the states; a history is none
 abbrev pub is_state : Tag → Bool
 is_state tag.State = true
 is_state tag.Parallel = true
 is_state tag.Final = true
-is_state tag.History = true
 is_state t = false
+
+-- the elements that are numbered: states and histories
+abbrev pub is_numbered : Tag → Bool
+is_numbered tag.State = true
+is_numbered tag.Parallel = true
+is_numbered tag.Final = true
+is_numbered tag.History = true
+is_numbered t = false
 
 abbrev pub attribute_text : Attribute → List ℕ
 attribute_text attribute.Array = codes "array"
@@ -201,14 +209,14 @@ is_either a b text = bytes_eq text a || bytes_eq text b
 
 -- expressions are left to the reading of expressions
 abbrev pub has_form : Form → List ℕ → Bool
-has_form form.Id text = is_word_within 128 text
-has_form form.Ids text = are_pieces (is_word_within 128) text
+has_form form.Id text = is_word_within ID_LIMIT text
+has_form form.Ids text = are_pieces (is_word_within ID_LIMIT) text
 has_form form.PlainName text = is_plain_name text
 has_form form.PlainNames text = are_pieces is_plain_name text
-has_form form.EventName text = is_word_within 256 text
+has_form form.EventName text = is_word_within EVENT_NAME_LIMIT text
 has_form form.Descriptors text = are_pieces is_word text
-has_form form.SendTarget text = nat_le (length text) 512
-has_form form.TypeName text = nat_le (length text) 256
+has_form form.SendTarget text = nat_le (length text) SEND_TARGET_LIMIT
+has_form form.TypeName text = nat_le (length text) TYPE_NAME_LIMIT
 has_form form.TransitionType text = is_either (codes "external") (codes "internal") text
 has_form form.HistoryType text = is_either (codes "shallow") (codes "deep") text
 has_form form.DataModel text = is_either (codes "whole") (codes "null") text
@@ -217,7 +225,7 @@ has_form form.Truth text = is_either (codes "false") (codes "true") text
 has_form form.Limit text = is_limit text
 has_form form.Version text = bytes_eq text (codes "1.0")
 has_form form.NameSpace text = bytes_eq text (codes "http://www.w3.org/2005/07/scxml")
-has_form form.ChartName text = is_word_within 64 text
+has_form form.ChartName text = is_word_within NAME_LIMIT text
 has_form form.Label text = is_text text
 has_form form.Delay text = is_some (delay_of text)
 has_form form.Code text = true

@@ -3,7 +3,7 @@ use Rattle.std.specs.Prelude.{ℕ, suc, ◌-◌, ◌==◌, ◌≤◌, if◌then�
 use Rattle.std.specs.List.{list_all}
 use Rattle.std.specs.Fmt.{signed_decimal}
 use Rattle.std.specs.Str.{bytes_eq}
-use Rattle.sc_types.specs.Text.{is_plain_name, is_text, is_int}
+use Rattle.sc_base.specs.Text.{is_plain_name, is_text, is_int}
 use Rattle.sc_types.specs.Tokens.{op_text, tokens}
 use Rattle.sc_types.specs.Values.{text_literal, truth_text, joined}
 use Rattle.sc_types.specs.declared.expr.EventField.{EventField}

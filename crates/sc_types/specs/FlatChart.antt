@@ -4,7 +4,7 @@ use Rattle.std.specs.Prelude.{ℕ, ◌==◌, ◌&&◌, nat_le, if◌then◌else�
 use Rattle.std.specs.Option.{option_map_or}
 use Rattle.std.specs.List.{list_all, list_any}
 use Rattle.std.specs.Str.{bytes_eq}
-use Rattle.sc_types.specs.Text.{is_plain_name}
+use Rattle.sc_base.specs.Text.{is_plain_name}
 use Rattle.sc_types.specs.declared.chart.Chart.{Chart}
 use Rattle.sc_types.specs.declared.chart.Member.{Member}
 use Rattle.sc_types.specs.declared.chart.Member.TheVariants.{Plain, Items, Code}

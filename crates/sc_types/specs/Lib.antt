@@ -1,3 +1,4 @@
+pub mod Attributes
 pub mod ChartTexts
 pub mod Delays
 pub mod Descriptors
@@ -5,7 +6,6 @@ pub mod Elements
 pub mod Expressions
 pub mod FlatChart
 pub mod PrintedCharts
-pub mod Text
+pub mod Sends
 pub mod Tokens
 pub mod Values
-pub mod formers

@@ -5,7 +5,7 @@ use Rattle.std.specs.List.{starts_with, prefix_len, take_while}
 use Rattle.std.specs.Str.{bytes_eq}
 use Rattle.std.specs.Str.Parse.{digits_value}
 use Rattle.sc_types.specs.Descriptors.{is_white_space}
-use Rattle.sc_types.specs.Text.{is_letter, is_digit, is_text}
+use Rattle.sc_base.specs.Text.{is_letter, is_digit, is_text}
 use Rattle.sc_types.specs.declared.expr.Op.{Op}
 use Rattle.sc_types.specs.declared.expr.Op.TheVariants.{Or, And, Eq, Ne, Lt, Le, Gt, Ge, Add, Sub, Mul, Div, Rem}
 use Rattle.sc_types.specs.declared.token.Mark.{Mark}

@@ -5,8 +5,9 @@ use Rattle.std.specs.List.{list_all, flat_map}
 use Rattle.std.specs.Fmt.{signed_decimal}
 use Rattle.std.specs.Str.{bytes_eq}
 use Rattle.sc_types.specs.Descriptors.{is_white_space}
-use Rattle.sc_types.specs.Text.{is_text, is_int}
+use Rattle.sc_base.specs.Text.{is_text, is_int}
 use Rattle.sc_types.specs.Tokens.{tokens}
+use Rattle.sc_types.specs.declared.limits.TheConstants.{ITEM_LIMIT}
 use Rattle.sc_types.specs.declared.token.Mark.TheVariants.{OpenSquare, CloseSquare, Comma}
 use Rattle.sc_types.specs.declared.token.Token.{Token}
 use Rattle.sc_types.specs.declared.token.Token.TheVariants.{Word, Number, Text as Quoted, Mark as Sign}
@@ -26,7 +27,7 @@ fits v = elim (out-Value v) [
   | Value-F.Bool b ↦ true
   | Value-F.Int n ↦ is_int n
   | Value-F.Text text ↦ is_text text
-  | Value-F.List items ↦ nat_le (length items) 256 && list_all is_item items
+  | Value-F.List items ↦ nat_le (length items) ITEM_LIMIT && list_all is_item items
 ]
 
 -- writing
@@ -76,7 +77,7 @@ items_of (t ∷ ts) = option_and_then (λ v. option_map (λ vs. v ∷ vs) (furth
 items_of [] = None
 
 abbrev pub listed : List Value → Option Value
-listed items = if nat_le (length items) 256 then Some (Listed items) else None
+listed items = if nat_le (length items) ITEM_LIMIT then Some (Listed items) else None
 
 abbrev pub truth_of : List ℕ → Option Value
 truth_of word = if bytes_eq word (codes "true") then Some (Truth true) else (if bytes_eq word (codes "false") then Some (Truth false) else None)

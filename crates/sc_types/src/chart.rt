@@ -1,12 +1,11 @@
 ghost use Rattle.std.specs.Prelude.{◌≡◌, ◌↔◌, IsTrue, IfOk, find};
 ghost use Rattle.std.specs.Str.{bytes_eq};
-ghost use Rattle.sc_types.specs.Elements.{tag_text, tag_of, is_state};
+ghost use Rattle.std.proofs.Common.{rules};
+ghost use Rattle.sc_types.specs.Elements.{tag_text, tag_of, is_state, is_numbered};
 
 use crate::expr::Expr;
-use crate::memory::NoMemory;
-use crate::plain::Plain;
-use crate::sequence::{Bytes, Sequence};
-use std::alloc::Global;
+use sc_base::{Bytes, NoMemory, Plain, Sequence};
+use std::alloc::AllocError;
 
 /// The SCXML element that a node stands for.
 #[derive(Clone, Copy, Debug, PartialEq, Eq)]
@@ -108,9 +107,16 @@ impl Tag {
         tag_named(&TAGS, text)
     }
 
-    /// Whether elements of this tag are counted and numbered as states.
+    /// Whether elements of this tag are states. Histories are none.
     pub fn is_state(self) -> bool
         ensures { result ≡ is_state self }
+    {
+        matches!(self, Tag::State | Tag::Parallel | Tag::Final)
+    }
+
+    /// Whether elements of this tag are numbered: states and histories.
+    pub fn is_numbered(self) -> bool
+        ensures { result ≡ is_numbered self }
     {
         matches!(self, Tag::State | Tag::Parallel | Tag::Final | Tag::History)
     }
@@ -128,7 +134,7 @@ fn tag_named(tags: &[Tag], text: &[u8]) -> Option<Tag>
 }
 
 /// The value of an attribute of an element.
-#[derive(Debug, Drop)]
+#[derive(Clone, Debug, Drop)]
 pub enum Member {
     /// The text as given.
     Plain(Bytes),
@@ -147,14 +153,14 @@ pub struct Node {
 }
 
 /// A state chart, as the tree of its elements.
-#[derive(Debug, Drop)]
+#[derive(Clone, Debug, Drop)]
 pub struct Chart {
     pub root: Node,
 }
 
 /// Why a text is no chart: the number of the fault, the places among `kids` that lead from the root to the
 /// element, and the name of the attribute where the fault is one of an expression.
-#[derive(Debug, Drop)]
+#[derive(Clone, Debug, Drop, PartialEq, Eq)]
 pub struct ChartFault {
     pub number: u8,
     pub path: Sequence<u32>,
@@ -162,7 +168,7 @@ pub struct ChartFault {
 }
 
 /// Why a chart is refused: its first fault, or memory was wanting.
-#[derive(Debug, Drop)]
+#[derive(Clone, Debug, Drop, PartialEq, Eq)]
 pub enum ChartRefusal {
     Fault(ChartFault),
     NoMemory,
@@ -180,115 +186,54 @@ impl From<NoMemory> for ChartRefusal {
 }
 
 impl Plain for Tag {
-    fn copy(&self, _alloc: Global) -> Result<Tag, NoMemory> {
-        Ok(*self)
-    }
-
-    fn same(&self, other: &Tag) -> bool {
-        *self == *other
-    }
+    ghost clone_equals = { Prim.search rules };
 }
 
 impl Plain for Member {
-    fn copy(&self, alloc: Global) -> Result<Member, NoMemory> {
-        match self {
-            Member::Plain(text) => Ok(Member::Plain(text.copy(alloc)?)),
-            Member::Items(words) => Ok(Member::Items(words.copy(alloc)?)),
-            Member::Code(code) => Ok(Member::Code(code.copy(alloc)?)),
-        }
-    }
+    ghost clone_equals = { Prim.search rules };
+}
 
-    fn same(&self, other: &Member) -> bool {
-        match (self, other) {
-            (Member::Plain(a), Member::Plain(b)) => a.same(b),
-            (Member::Items(a), Member::Items(b)) => a.same(b),
-            (Member::Code(a), Member::Code(b)) => a.same(b),
-            _ => false,
+impl Plain for Chart {
+    ghost clone_equals = { Prim.search rules };
+}
+
+impl Plain for ChartFault {
+    ghost clone_equals = { Prim.search rules };
+}
+
+impl Clone for Node {
+    ghost is_clone = { λ n copy. copy ≡ n };
+
+    fn clone(&self) -> Result<Self, AllocError> {
+        match copy_node(self) {
+            Ok(node) => Ok(node),
+            Err(NoMemory) => Err(AllocError),
         }
     }
 }
 
 impl Plain for Node {
-    fn copy(&self, alloc: Global) -> Result<Node, NoMemory> {
-        copy_node(alloc, self)
-    }
-
-    fn same(&self, other: &Node) -> bool {
-        same_node(self, other)
-    }
+    ghost clone_equals = { λ n copy same. same };
 }
 
 #[cycle(copy)]
-fn copy_node(alloc: Global, node: &Node) -> Result<Node, NoMemory>
+fn copy_node(node: &Node) -> Result<Node, NoMemory>
     ensures { IfOk result (λ c. c ≡ node.now) }
 {
     Ok(Node {
         tag: node.tag,
-        members: node.members.copy(alloc)?,
-        kids: copy_nodes(alloc, node.kids.slice())?,
+        members: node.members.copy()?,
+        kids: copy_nodes(&node.kids)?,
     })
 }
 
 #[cycle(copy)]
-fn copy_nodes(alloc: Global, nodes: &[Node]) -> Result<Sequence<Node>, NoMemory>
+fn copy_nodes(nodes: &Sequence<Node>) -> Result<Sequence<Node>, NoMemory>
     ensures { IfOk result (λ c. c ≡ nodes.now) }
 {
-    let mut copy = Sequence::new(alloc);
-    for node in nodes {
-        copy.push(copy_node(alloc, node)?)?;
+    let mut copy = Sequence::new(nodes.allocator());
+    for node in nodes.slice() {
+        copy.push(copy_node(node)?)?;
     }
     Ok(copy)
-}
-
-#[cycle(same)]
-fn same_node(a: &Node, b: &Node) -> bool
-    ensures { IsTrue result ↔ (a.now ≡ b.now) }
-{
-    if !a.tag.same(&b.tag) || !a.members.same(&b.members) {
-        return false;
-    }
-    same_nodes(a.kids.slice(), b.kids.slice())
-}
-
-#[cycle(same)]
-fn same_nodes(a: &[Node], b: &[Node]) -> bool
-    ensures { IsTrue result ↔ (a.now ≡ b.now) }
-{
-    if a.len() != b.len() {
-        return false;
-    }
-    for i in 0..a.len() {
-        if !same_node(&a[i], &b[i]) {
-            return false;
-        }
-    }
-    true
-}
-
-impl Plain for Chart {
-    fn copy(&self, alloc: Global) -> Result<Chart, NoMemory> {
-        Ok(Chart {
-            root: self.root.copy(alloc)?,
-        })
-    }
-
-    fn same(&self, other: &Chart) -> bool {
-        self.root.same(&other.root)
-    }
-}
-
-impl Plain for ChartFault {
-    fn copy(&self, alloc: Global) -> Result<ChartFault, NoMemory> {
-        Ok(ChartFault {
-            number: self.number,
-            path: self.path.copy(alloc)?,
-            member: self.member.copy(alloc)?,
-        })
-    }
-
-    fn same(&self, other: &ChartFault) -> bool {
-        self.number == other.number
-            && self.path.same(&other.path)
-            && self.member.same(&other.member)
-    }
 }

@@ -1,11 +1,8 @@
 ghost use Rattle.std.specs.Prelude.{◌≡◌, ◌↔◌, IsTrue, IfOk};
+ghost use Rattle.std.proofs.Common.{rules};
 
-use crate::boxed::Boxed;
-use crate::memory::NoMemory;
-use crate::plain::Plain;
-use crate::sequence::{Bytes, Sequence};
-use crate::text::PlainName;
-use std::alloc::Global;
+use sc_base::{Boxed, Bytes, NoMemory, Plain, PlainName, Sequence};
+use std::alloc::AllocError;
 
 /// An operator between two expressions.
 #[derive(Clone, Copy, Debug, PartialEq, Eq)]
@@ -26,7 +23,7 @@ pub enum Op {
 }
 
 /// A field of the event that is being processed, as `_event.name` and `_event.data.x`.
-#[derive(Debug, Drop)]
+#[derive(Clone, Debug, Drop, PartialEq, Eq)]
 pub enum EventField {
     Name,
     Kind,
@@ -63,130 +60,63 @@ pub enum Expr {
 }
 
 impl Plain for Op {
-    fn copy(&self, _alloc: Global) -> Result<Op, NoMemory> {
-        Ok(*self)
-    }
-
-    fn same(&self, other: &Op) -> bool {
-        *self == *other
-    }
+    ghost clone_equals = { Prim.search rules };
 }
 
 impl Plain for EventField {
-    fn copy(&self, alloc: Global) -> Result<EventField, NoMemory> {
-        Ok(match self {
-            EventField::Name => EventField::Name,
-            EventField::Kind => EventField::Kind,
-            EventField::SendId => EventField::SendId,
-            EventField::Origin => EventField::Origin,
-            EventField::OriginType => EventField::OriginType,
-            EventField::InvokeId => EventField::InvokeId,
-            EventField::Payload => EventField::Payload,
-            EventField::PayloadOf(name) => EventField::PayloadOf(name.copy(alloc)?),
-        })
-    }
+    ghost clone_equals = { Prim.search rules };
+}
 
-    fn same(&self, other: &EventField) -> bool {
-        match (self, other) {
-            (EventField::Name, EventField::Name)
-            | (EventField::Kind, EventField::Kind)
-            | (EventField::SendId, EventField::SendId)
-            | (EventField::Origin, EventField::Origin)
-            | (EventField::OriginType, EventField::OriginType)
-            | (EventField::InvokeId, EventField::InvokeId)
-            | (EventField::Payload, EventField::Payload) => true,
-            (EventField::PayloadOf(a), EventField::PayloadOf(b)) => a.same(b),
-            _ => false,
+impl Clone for Expr {
+    ghost is_clone = { λ e copy. copy ≡ e };
+
+    fn clone(&self) -> Result<Self, AllocError> {
+        match copy_expr(self) {
+            Ok(expr) => Ok(expr),
+            Err(NoMemory) => Err(AllocError),
         }
     }
 }
 
 impl Plain for Expr {
-    fn copy(&self, alloc: Global) -> Result<Expr, NoMemory> {
-        copy_expr(alloc, self)
-    }
-
-    fn same(&self, other: &Expr) -> bool {
-        same_expr(self, other)
-    }
+    ghost clone_equals = { λ e copy same. same };
 }
 
 #[cycle(copy)]
-fn copy_expr(alloc: Global, e: &Expr) -> Result<Expr, NoMemory>
+fn copy_expr(e: &Expr) -> Result<Expr, NoMemory>
     ensures { IfOk result (λ c. c ≡ e.now) }
 {
     Ok(match e {
         Expr::Bool(value) => Expr::Bool(*value),
         Expr::Int(value) => Expr::Int(*value),
-        Expr::Text(text) => Expr::Text(text.copy(alloc)?),
-        Expr::List(items) => Expr::List(copy_exprs(alloc, items.slice())?),
-        Expr::Datum(name) => Expr::Datum(name.copy(alloc)?),
-        Expr::Field(field) => Expr::Field(field.copy(alloc)?),
-        Expr::Active(id) => Expr::Active(id.copy(alloc)?),
-        Expr::Not(a) => Expr::Not(copy_boxed(alloc, a)?),
-        Expr::Neg(a) => Expr::Neg(copy_boxed(alloc, a)?),
-        Expr::Two(op, a, b) => Expr::Two(*op, copy_boxed(alloc, a)?, copy_boxed(alloc, b)?),
-        Expr::Item(a, b) => Expr::Item(copy_boxed(alloc, a)?, copy_boxed(alloc, b)?),
-        Expr::Len(a) => Expr::Len(copy_boxed(alloc, a)?),
-        Expr::AsText(a) => Expr::AsText(copy_boxed(alloc, a)?),
+        Expr::Text(text) => Expr::Text(text.copy()?),
+        Expr::List(items) => Expr::List(copy_exprs(items)?),
+        Expr::Datum(name) => Expr::Datum(name.copy()?),
+        Expr::Field(field) => Expr::Field(field.copy()?),
+        Expr::Active(id) => Expr::Active(id.copy()?),
+        Expr::Not(a) => Expr::Not(copy_boxed(a)?),
+        Expr::Neg(a) => Expr::Neg(copy_boxed(a)?),
+        Expr::Two(op, a, b) => Expr::Two(*op, copy_boxed(a)?, copy_boxed(b)?),
+        Expr::Item(a, b) => Expr::Item(copy_boxed(a)?, copy_boxed(b)?),
+        Expr::Len(a) => Expr::Len(copy_boxed(a)?),
+        Expr::AsText(a) => Expr::AsText(copy_boxed(a)?),
     })
 }
 
 #[cycle(copy)]
-fn copy_boxed(alloc: Global, e: &Boxed<Expr>) -> Result<Boxed<Expr>, NoMemory>
+fn copy_boxed(e: &Boxed<Expr>) -> Result<Boxed<Expr>, NoMemory>
     ensures { IfOk result (λ c. c ≡ e.now) }
 {
-    Boxed::new(alloc, copy_expr(alloc, e.get())?)
+    Boxed::new(e.allocator(), copy_expr(e.get())?)
 }
 
 #[cycle(copy)]
-fn copy_exprs(alloc: Global, items: &[Expr]) -> Result<Sequence<Expr>, NoMemory>
+fn copy_exprs(items: &Sequence<Expr>) -> Result<Sequence<Expr>, NoMemory>
     ensures { IfOk result (λ c. c ≡ items.now) }
 {
-    let mut copy = Sequence::new(alloc);
-    for item in items {
-        copy.push(copy_expr(alloc, item)?)?;
+    let mut copy = Sequence::new(items.allocator());
+    for item in items.slice() {
+        copy.push(copy_expr(item)?)?;
     }
     Ok(copy)
-}
-
-#[cycle(same)]
-fn same_expr(a: &Expr, b: &Expr) -> bool
-    ensures { IsTrue result ↔ (a.now ≡ b.now) }
-{
-    match (a, b) {
-        (Expr::Bool(a), Expr::Bool(b)) => *a == *b,
-        (Expr::Int(a), Expr::Int(b)) => *a == *b,
-        (Expr::Text(a), Expr::Text(b)) => a.same(b),
-        (Expr::List(a), Expr::List(b)) => same_exprs(a.slice(), b.slice()),
-        (Expr::Datum(a), Expr::Datum(b)) => a.same(b),
-        (Expr::Field(a), Expr::Field(b)) => a.same(b),
-        (Expr::Active(a), Expr::Active(b)) => a.same(b),
-        (Expr::Not(a), Expr::Not(b)) => same_expr(a.get(), b.get()),
-        (Expr::Neg(a), Expr::Neg(b)) => same_expr(a.get(), b.get()),
-        (Expr::Two(op, a, c), Expr::Two(other, b, d)) => {
-            op.same(other) && same_expr(a.get(), b.get()) && same_expr(c.get(), d.get())
-        }
-        (Expr::Item(a, c), Expr::Item(b, d)) => {
-            same_expr(a.get(), b.get()) && same_expr(c.get(), d.get())
-        }
-        (Expr::Len(a), Expr::Len(b)) => same_expr(a.get(), b.get()),
-        (Expr::AsText(a), Expr::AsText(b)) => same_expr(a.get(), b.get()),
-        _ => false,
-    }
-}
-
-#[cycle(same)]
-fn same_exprs(a: &[Expr], b: &[Expr]) -> bool
-    ensures { IsTrue result ↔ (a.now ≡ b.now) }
-{
-    if a.len() != b.len() {
-        return false;
-    }
-    for i in 0..a.len() {
-        if !same_expr(&a[i], &b[i]) {
-            return false;
-        }
-    }
-    true
 }

@@ -1,32 +1,30 @@
+ghost use Rattle.std.proofs.Common.{rules};
+
 use crate::event::Event;
-use crate::memory::NoMemory;
-use crate::plain::Plain;
-use crate::sequence::{Bytes, Sequence};
 use crate::session::SessionState;
-use crate::text::Word;
-use std::alloc::Global;
+use sc_base::{Bytes, Plain, Queue, Sequence, SmallBytes, Word};
 
 /// An installed chart: its name, and its text as it was given.
-#[derive(Debug, Drop)]
+#[derive(Clone, Debug, Drop, PartialEq, Eq)]
 pub struct ChartImage {
     pub name: Word,
     pub text: Bytes,
 }
 
 /// The session that invoked another, under which id, and whether the two are cut off from one another.
-#[derive(Debug, Drop)]
+#[derive(Clone, Debug, Drop, PartialEq, Eq)]
 pub struct InvokerImage {
     pub session: Word,
-    pub invokeid: Bytes,
+    pub invokeid: SmallBytes,
     pub cut: bool,
 }
 
 /// A session as the host holds it.
-#[derive(Debug, Drop)]
+#[derive(Clone, Debug, Drop, PartialEq, Eq)]
 pub struct SessionImage {
     pub state: SessionState,
     /// The external queue, its front first.
-    pub queued: Sequence<Event>,
+    pub queued: Queue<Event>,
     /// Whether the session is to be cancelled.
     pub flagged: bool,
     pub invoker: Option<InvokerImage>,
@@ -35,7 +33,7 @@ pub struct SessionImage {
 }
 
 /// Who receives an event.
-#[derive(Debug, Drop)]
+#[derive(Clone, Debug, Drop, PartialEq, Eq)]
 pub enum To {
     Own,
     Parent,
@@ -46,9 +44,10 @@ pub enum To {
 
 /// A delayed send that is pending: the session that sent it, its number, and when it is due, in milliseconds
 /// of the host's clock.
-#[derive(Debug, Drop)]
+#[derive(Clone, Debug, Drop, PartialEq, Eq)]
 pub struct TimerImage {
     pub session: Word,
+    /// Each send has a number of its own; a later one has a larger one.
     pub number: u64,
     pub due: u64,
     pub event: Event,
@@ -58,7 +57,7 @@ pub struct TimerImage {
 /// The host's plain data: the clock in milliseconds, how many commands were accepted, events numbered and
 /// sends delayed, the charts in order of installation, the sessions in order of start, and the pending sends
 /// in order of their due times.
-#[derive(Debug, Drop)]
+#[derive(Clone, Debug, Drop, PartialEq, Eq)]
 pub struct HostImage {
     pub clock: u64,
     pub commands: u64,
@@ -70,114 +69,25 @@ pub struct HostImage {
 }
 
 impl Plain for ChartImage {
-    fn copy(&self, alloc: Global) -> Result<ChartImage, NoMemory> {
-        Ok(ChartImage {
-            name: self.name.copy(alloc)?,
-            text: self.text.copy(alloc)?,
-        })
-    }
-
-    fn same(&self, other: &ChartImage) -> bool {
-        self.name.same(&other.name) && self.text.same(&other.text)
-    }
+    ghost clone_equals = { Prim.search rules };
 }
 
 impl Plain for InvokerImage {
-    fn copy(&self, alloc: Global) -> Result<InvokerImage, NoMemory> {
-        Ok(InvokerImage {
-            session: self.session.copy(alloc)?,
-            invokeid: self.invokeid.copy(alloc)?,
-            cut: self.cut,
-        })
-    }
-
-    fn same(&self, other: &InvokerImage) -> bool {
-        self.session.same(&other.session)
-            && self.invokeid.same(&other.invokeid)
-            && self.cut == other.cut
-    }
+    ghost clone_equals = { Prim.search rules };
 }
 
 impl Plain for SessionImage {
-    fn copy(&self, alloc: Global) -> Result<SessionImage, NoMemory> {
-        Ok(SessionImage {
-            state: self.state.copy(alloc)?,
-            queued: self.queued.copy(alloc)?,
-            flagged: self.flagged,
-            invoker: self.invoker.copy(alloc)?,
-            depth: self.depth,
-        })
-    }
-
-    fn same(&self, other: &SessionImage) -> bool {
-        self.state.same(&other.state)
-            && self.queued.same(&other.queued)
-            && self.flagged == other.flagged
-            && self.invoker.same(&other.invoker)
-            && self.depth == other.depth
-    }
+    ghost clone_equals = { Prim.search rules };
 }
 
 impl Plain for To {
-    fn copy(&self, alloc: Global) -> Result<To, NoMemory> {
-        match self {
-            To::Own => Ok(To::Own),
-            To::Parent => Ok(To::Parent),
-            To::Child(name) => Ok(To::Child(name.copy(alloc)?)),
-            To::Session(name) => Ok(To::Session(name.copy(alloc)?)),
-            To::Nowhere => Ok(To::Nowhere),
-        }
-    }
-
-    fn same(&self, other: &To) -> bool {
-        match (self, other) {
-            (To::Own, To::Own) | (To::Parent, To::Parent) | (To::Nowhere, To::Nowhere) => true,
-            (To::Child(a), To::Child(b)) | (To::Session(a), To::Session(b)) => a.same(b),
-            _ => false,
-        }
-    }
+    ghost clone_equals = { Prim.search rules };
 }
 
 impl Plain for TimerImage {
-    fn copy(&self, alloc: Global) -> Result<TimerImage, NoMemory> {
-        Ok(TimerImage {
-            session: self.session.copy(alloc)?,
-            number: self.number,
-            due: self.due,
-            event: self.event.copy(alloc)?,
-            to: self.to.copy(alloc)?,
-        })
-    }
-
-    fn same(&self, other: &TimerImage) -> bool {
-        self.session.same(&other.session)
-            && self.number == other.number
-            && self.due == other.due
-            && self.event.same(&other.event)
-            && self.to.same(&other.to)
-    }
+    ghost clone_equals = { Prim.search rules };
 }
 
 impl Plain for HostImage {
-    fn copy(&self, alloc: Global) -> Result<HostImage, NoMemory> {
-        Ok(HostImage {
-            clock: self.clock,
-            commands: self.commands,
-            events: self.events,
-            delayed: self.delayed,
-            charts: self.charts.copy(alloc)?,
-            sessions: self.sessions.copy(alloc)?,
-            timers: self.timers.copy(alloc)?,
-        })
-    }
-
-    fn same(&self, other: &HostImage) -> bool {
-        self.clock == other.clock
-            && self.commands == other.commands
-            && self.events == other.events
-            && self.delayed == other.delayed
-            && self.charts.same(&other.charts)
-            && self.sessions.same(&other.sessions)
-            && self.timers.same(&other.timers)
-    }
+    ghost clone_equals = { Prim.search rules };
 }

@@ -5,33 +5,40 @@
 #![tactic(auto)]
 
 mod attribute;
-mod boxed;
 mod chart;
 mod command;
+mod effect;
+mod eval_fault;
 mod event;
 mod expr;
+pub mod faults;
 mod history;
 mod host;
-mod memory;
-mod plain;
-mod sequence;
+mod limits;
+mod node;
 mod session;
-mod text;
+mod state_kind;
 mod token;
 mod value;
 
 pub use attribute::{Attribute, Form};
-pub use boxed::Boxed;
 pub use chart::{Chart, ChartFault, ChartRefusal, Member, Node, Tag};
 pub use command::{Command, Refusal, Reply};
+pub use effect::Effect;
+pub use eval_fault::EvalFault;
 pub use event::{Data, Event, Kind};
 pub use expr::{EventField, Expr, Op};
 pub use history::{Delivery, Entry, LogLine, Who};
 pub use host::{ChartImage, HostImage, InvokerImage, SessionImage, TimerImage, To};
-pub use memory::NoMemory;
-pub use plain::Plain;
-pub use sequence::{Bytes, Sequence};
+pub use limits::{
+    CHART_TEXT_LIMIT, DEFAULT_ROUNDS, DELAY_LIMIT, EVENT_NAME_LIMIT, ID_LIMIT, ITEM_LIMIT,
+    LEVEL_LIMIT, NAME_LIMIT, ROUND_LIMIT, SEND_TARGET_LIMIT, STATE_LIMIT, TYPE_NAME_LIMIT,
+};
+pub use sc_base::{
+    Boxed, Bytes, Failure, Name, NoMemory, Plain, PlainName, Queue, Sequence, SmallBytes,
+    TextWriter, Unfit, Word, is_plain_name, is_text, is_word,
+};
 pub use session::{Cue, CueName, How, Invoked, Phase, SessionState};
-pub use text::{Name, PlainName, Unfit, Word, is_plain_name, is_text, is_word};
+pub use state_kind::StateKind;
 pub use token::{Mark, Token};
 pub use value::{PairList, Value};

@@ -1,13 +1,11 @@
+ghost use Rattle.std.proofs.Common.{rules};
+
 use crate::event::{Data, Event};
-use crate::memory::NoMemory;
-use crate::plain::Plain;
-use crate::sequence::{Bytes, Sequence};
-use crate::text::{PlainName, Word};
 use crate::value::{PairList, Value};
-use std::alloc::Global;
+use sc_base::{Plain, PlainName, Queue, Sequence, SmallBytes, Word};
 
 /// How a session ended.
-#[derive(Debug, Drop)]
+#[derive(Clone, Debug, Drop, PartialEq, Eq)]
 pub enum How {
     /// By a top-level final state, with its done data.
     Final(Data),
@@ -17,7 +15,7 @@ pub enum How {
 }
 
 /// Where a session stands.
-#[derive(Debug, Drop)]
+#[derive(Clone, Debug, Drop, PartialEq, Eq)]
 pub enum Phase {
     /// Started, and not stepped yet.
     Fresh,
@@ -27,16 +25,16 @@ pub enum Phase {
 
 /// An invocation that runs: the state and the place among its children of the `<invoke>`, its id, and the
 /// child session.
-#[derive(Debug, Drop)]
+#[derive(Clone, Debug, Drop, PartialEq, Eq)]
 pub struct Invoked {
     pub state: u32,
     pub place: u32,
-    pub invokeid: Bytes,
+    pub invokeid: SmallBytes,
     pub child: Word,
 }
 
 /// A session between two turns. States are named by their numbers in document order, from 0.
-#[derive(Debug, Drop)]
+#[derive(Clone, Debug, Drop, PartialEq, Eq)]
 pub struct SessionState {
     pub session: Word,
     pub chart: Word,
@@ -50,7 +48,7 @@ pub struct SessionState {
     /// The states that each history recorded.
     pub histories: Sequence<(u32, Sequence<u32>)>,
     /// The internal queue, its front first.
-    pub internal: Sequence<Event>,
+    pub internal: Queue<Event>,
     pub invokes: Sequence<Invoked>,
     /// The event that `_event` names.
     pub bound: Option<Event>,
@@ -63,12 +61,14 @@ pub struct SessionState {
 }
 
 /// What a turn begins with.
-#[derive(Debug, Drop)]
+#[derive(Clone, Debug, Drop, PartialEq, Eq)]
 pub enum Cue {
     /// The session's first turn.
     Fresh,
     /// Internal events are waiting.
     Resume,
+    /// The session is to be cancelled.
+    Cancel,
     /// The front of the external queue.
     External(Event),
 }
@@ -78,123 +78,30 @@ pub enum Cue {
 pub enum CueName {
     Fresh,
     Resume,
+    Cancel,
     External(u128),
 }
 
 impl Plain for How {
-    fn copy(&self, alloc: Global) -> Result<How, NoMemory> {
-        match self {
-            How::Final(data) => Ok(How::Final(data.copy(alloc)?)),
-            How::Cancelled => Ok(How::Cancelled),
-            How::Runaway => Ok(How::Runaway),
-        }
-    }
-
-    fn same(&self, other: &How) -> bool {
-        match (self, other) {
-            (How::Final(a), How::Final(b)) => a.same(b),
-            (How::Cancelled, How::Cancelled) | (How::Runaway, How::Runaway) => true,
-            _ => false,
-        }
-    }
+    ghost clone_equals = { Prim.search rules };
 }
 
 impl Plain for Phase {
-    fn copy(&self, alloc: Global) -> Result<Phase, NoMemory> {
-        match self {
-            Phase::Fresh => Ok(Phase::Fresh),
-            Phase::Running => Ok(Phase::Running),
-            Phase::Ended(how) => Ok(Phase::Ended(how.copy(alloc)?)),
-        }
-    }
-
-    fn same(&self, other: &Phase) -> bool {
-        match (self, other) {
-            (Phase::Fresh, Phase::Fresh) | (Phase::Running, Phase::Running) => true,
-            (Phase::Ended(a), Phase::Ended(b)) => a.same(b),
-            _ => false,
-        }
-    }
+    ghost clone_equals = { Prim.search rules };
 }
 
 impl Plain for Invoked {
-    fn copy(&self, alloc: Global) -> Result<Invoked, NoMemory> {
-        Ok(Invoked {
-            state: self.state,
-            place: self.place,
-            invokeid: self.invokeid.copy(alloc)?,
-            child: self.child.copy(alloc)?,
-        })
-    }
-
-    fn same(&self, other: &Invoked) -> bool {
-        self.state == other.state
-            && self.place == other.place
-            && self.invokeid.same(&other.invokeid)
-            && self.child.same(&other.child)
-    }
+    ghost clone_equals = { Prim.search rules };
 }
 
 impl Plain for SessionState {
-    fn copy(&self, alloc: Global) -> Result<SessionState, NoMemory> {
-        Ok(SessionState {
-            session: self.session.copy(alloc)?,
-            chart: self.chart.copy(alloc)?,
-            phase: self.phase.copy(alloc)?,
-            configuration: self.configuration.copy(alloc)?,
-            values: self.values.copy(alloc)?,
-            entered: self.entered.copy(alloc)?,
-            histories: self.histories.copy(alloc)?,
-            internal: self.internal.copy(alloc)?,
-            invokes: self.invokes.copy(alloc)?,
-            bound: self.bound.copy(alloc)?,
-            params: self.params.copy(alloc)?,
-            sends: self.sends,
-            born: self.born,
-        })
-    }
-
-    fn same(&self, other: &SessionState) -> bool {
-        self.session.same(&other.session)
-            && self.chart.same(&other.chart)
-            && self.phase.same(&other.phase)
-            && self.configuration.same(&other.configuration)
-            && self.values.same(&other.values)
-            && self.entered.same(&other.entered)
-            && self.histories.same(&other.histories)
-            && self.internal.same(&other.internal)
-            && self.invokes.same(&other.invokes)
-            && self.bound.same(&other.bound)
-            && self.params.same(&other.params)
-            && self.sends == other.sends
-            && self.born == other.born
-    }
+    ghost clone_equals = { Prim.search rules };
 }
 
 impl Plain for Cue {
-    fn copy(&self, alloc: Global) -> Result<Cue, NoMemory> {
-        match self {
-            Cue::Fresh => Ok(Cue::Fresh),
-            Cue::Resume => Ok(Cue::Resume),
-            Cue::External(event) => Ok(Cue::External(event.copy(alloc)?)),
-        }
-    }
-
-    fn same(&self, other: &Cue) -> bool {
-        match (self, other) {
-            (Cue::Fresh, Cue::Fresh) | (Cue::Resume, Cue::Resume) => true,
-            (Cue::External(a), Cue::External(b)) => a.same(b),
-            _ => false,
-        }
-    }
+    ghost clone_equals = { Prim.search rules };
 }
 
 impl Plain for CueName {
-    fn copy(&self, _alloc: Global) -> Result<CueName, NoMemory> {
-        Ok(*self)
-    }
-
-    fn same(&self, other: &CueName) -> bool {
-        *self == *other
-    }
+    ghost clone_equals = { Prim.search rules };
 }

@@ -1,5 +1,5 @@
 use crate::expr::Op;
-use crate::sequence::Bytes;
+use sc_base::Bytes;
 
 /// A sign that is no operator between two expressions. `Dot` stands between `_event` and its field.
 #[derive(Clone, Copy, Debug, PartialEq, Eq)]
@@ -14,7 +14,7 @@ pub enum Mark {
 }
 
 /// A piece of an expression or of a value literal, with white space free before it.
-#[derive(Debug, Drop)]
+#[derive(Clone, Debug, Drop, PartialEq, Eq)]
 pub enum Token {
     /// Letters, digits and `_`, of which the first is no digit.
     Word(Bytes),

@@ -1,16 +1,14 @@
 ghost use Rattle.std.specs.Prelude.{◌≡◌, ◌↔◌, IsTrue, IfOk};
 ghost use Rattle.std.specs.List.{list_all};
-ghost use Rattle.sc_types.specs.Text.{is_int};
+ghost use Rattle.sc_base.specs.Text.{is_int};
 ghost use Rattle.sc_types.specs.Values.{is_item, fits};
 
-use crate::memory::NoMemory;
-use crate::plain::Plain;
-use crate::sequence::{Bytes, Sequence};
-use crate::text::{PlainName, is_text};
-use std::alloc::Global;
+use crate::limits::ITEM_LIMIT;
+use sc_base::{Bytes, NoMemory, Plain, PlainName, Sequence, is_text};
+use std::alloc::AllocError;
 
 /// A value of the data model.
-#[derive(Debug, Drop)]
+#[derive(Debug, Drop, PartialEq, Eq)]
 pub enum Value {
     Bool(bool),
     Int(i64),
@@ -57,68 +55,45 @@ impl Value {
             Value::Bool(_) => true,
             Value::Int(number) => is_int(*number),
             Value::Text(text) => is_text(text.slice()),
-            Value::List(items) => items.len() <= 256 && are_items(items.slice()),
+            Value::List(items) => items.len() <= ITEM_LIMIT && are_items(items.slice()),
+        }
+    }
+}
+
+impl Clone for Value {
+    ghost is_clone = { λ v copy. copy ≡ v };
+
+    fn clone(&self) -> Result<Self, AllocError> {
+        match copy_value(self) {
+            Ok(value) => Ok(value),
+            Err(NoMemory) => Err(AllocError),
         }
     }
 }
 
 impl Plain for Value {
-    fn copy(&self, alloc: Global) -> Result<Value, NoMemory> {
-        copy_value(alloc, self)
-    }
-
-    fn same(&self, other: &Value) -> bool {
-        same_value(self, other)
-    }
+    ghost clone_equals = { λ v copy e. e };
 }
 
 #[cycle(copy)]
-fn copy_value(alloc: Global, value: &Value) -> Result<Value, NoMemory>
+fn copy_value(value: &Value) -> Result<Value, NoMemory>
     ensures { IfOk result (λ c. c ≡ value.now) }
 {
     Ok(match value {
         Value::Bool(truth) => Value::Bool(*truth),
         Value::Int(number) => Value::Int(*number),
-        Value::Text(text) => Value::Text(text.copy(alloc)?),
-        Value::List(items) => Value::List(copy_values(alloc, items.slice())?),
+        Value::Text(text) => Value::Text(text.copy()?),
+        Value::List(items) => Value::List(copy_values(items)?),
     })
 }
 
 #[cycle(copy)]
-fn copy_values(alloc: Global, items: &[Value]) -> Result<Sequence<Value>, NoMemory>
+fn copy_values(items: &Sequence<Value>) -> Result<Sequence<Value>, NoMemory>
     ensures { IfOk result (λ c. c ≡ items.now) }
 {
-    let mut copy = Sequence::new(alloc);
-    for item in items {
-        copy.push(copy_value(alloc, item)?)?;
+    let mut copy = Sequence::new(items.allocator());
+    for item in items.slice() {
+        copy.push(copy_value(item)?)?;
     }
     Ok(copy)
-}
-
-#[cycle(same)]
-fn same_value(a: &Value, b: &Value) -> bool
-    ensures { IsTrue result ↔ (a.now ≡ b.now) }
-{
-    match (a, b) {
-        (Value::Bool(a), Value::Bool(b)) => *a == *b,
-        (Value::Int(a), Value::Int(b)) => *a == *b,
-        (Value::Text(a), Value::Text(b)) => a.same(b),
-        (Value::List(a), Value::List(b)) => same_values(a.slice(), b.slice()),
-        _ => false,
-    }
-}
-
-#[cycle(same)]
-fn same_values(a: &[Value], b: &[Value]) -> bool
-    ensures { IsTrue result ↔ (a.now ≡ b.now) }
-{
-    if a.len() != b.len() {
-        return false;
-    }
-    for i in 0..a.len() {
-        if !same_value(&a[i], &b[i]) {
-            return false;
-        }
-    }
-    true
 }

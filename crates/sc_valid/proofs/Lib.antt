@@ -1,3 +1,2 @@
 pub mod Commons
 pub mod Tables
-pub mod Walks

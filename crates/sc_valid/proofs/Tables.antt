@@ -14,8 +14,7 @@ use Rattle.sc_types.specs.declared.attribute.Attribute.TheVariants as attribute
 use Rattle.sc_types.specs.declared.chart.Chart.{Chart}
 use Rattle.sc_types.specs.declared.chart.Node.{Node}
 use Rattle.sc_types.specs.declared.chart.Tag.{Tag}
-use Rattle.sc_law.specs.Tree.{Path, tag_of}
-use Rattle.sc_law.specs.Legality.{element, is_text_at}
+use Rattle.sc_law.specs.Nodes.{Path, tag_of, element, is_text_at}
 use Rattle.sc_valid.specs.Firsts.{first_of, IsPut, IsAdded, AreFirsts}
 use Rattle.sc_valid.specs.declared.firsts.Firsts.{Firsts}
 

@@ -8,9 +8,10 @@ use Rattle.std.specs.Ordering.{nat_cmp}
 use Rattle.sc_types.specs.declared.attribute.Attribute.TheVariants as attribute
 use Rattle.sc_types.specs.declared.chart.Chart.{Chart}
 use Rattle.sc_types.specs.declared.chart.Tag.{Tag}
-use Rattle.sc_law.specs.Tree.{Path, tag_of}
+use Rattle.sc_law.specs.Nodes.{Path, tag_of}
 use Rattle.sc_types.specs.declared.chart.Node.{Node}
-use Rattle.sc_law.specs.Legality.{element, is_text_at, first_with, is_same}
+use Rattle.sc_law.specs.Nodes.{element, is_text_at, is_same}
+use Rattle.sc_law.specs.Legality.{first_with}
 use Rattle.sc_valid.specs.declared.firsts.Firsts.{Firsts}
 
 abbrev pub first_of : Firsts → List ℕ → Option Path

@@ -1,7 +1,7 @@
 -- The faults with the later numbers. Only contracts of private functions cite this.
 use Rattle.std.specs.Prelude.{ℕ, Bool, Option, option_map, drop, find}
 use Rattle.sc_types.specs.declared.chart.Chart.{Chart}
-use Rattle.sc_law.specs.Tree.{Path}
+use Rattle.sc_law.specs.Nodes.{Path}
 use Rattle.sc_law.specs.Legality.{tests}
 
 abbrev pub later_number : Chart → Path → Option ℕ

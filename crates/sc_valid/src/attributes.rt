@@ -1,6 +1,6 @@
 ghost use Rattle.std.specs.Prelude.{◌≡◌};
 ghost use Rattle.std.specs.Option.{option_copied};
-ghost use Rattle.sc_law.specs.Legality.{given, has, words_at, text_at, is_text_at};
+ghost use Rattle.sc_law.specs.Nodes.{given, has, words_at, text_at, is_text_at};
 
 use sc_law::member;
 use sc_types::{Attribute, Bytes, Member, Node};

@@ -1,6 +1,7 @@
 ghost use Rattle.std.specs.Prelude.{◌≡◌, ◌&&◌, ◌∷◌, [], length};
 ghost use Rattle.sc_types.specs.declared.chart.Tag.TheVariants as tag_name;
-ghost use Rattle.sc_law.specs.Legality.{element, parent, is_tag, is_among, is_single, has_kid, has_earlier, is_in_finalize, is_bad_kid, is_bad_child};
+ghost use Rattle.sc_law.specs.Nodes.{element, parent, is_tag};
+ghost use Rattle.sc_law.specs.Legality.{is_among, is_single, has_kid, has_earlier, is_in_finalize, is_bad_kid, is_bad_child};
 
 use crate::index::ChartIndex;
 use crate::tags::{has_kid, is_any, is_single, is_tag, may_hold};

@@ -3,7 +3,8 @@ ghost use Rattle.std.specs.List.{list_any};
 ghost use Rattle.std.specs.Option.{option_map_or};
 ghost use Rattle.sc_types.specs.declared.attribute.Attribute.TheVariants as attribute;
 ghost use Rattle.sc_types.specs.declared.chart.Tag.TheVariants as tag_name;
-ghost use Rattle.sc_law.specs.Legality.{given, has, is_among, text_at, is_system_name, is_test, needs_data, is_null_model, is_bad_datum, is_bad_data};
+ghost use Rattle.sc_law.specs.Nodes.{given, has, text_at};
+ghost use Rattle.sc_law.specs.Legality.{is_among, is_system_name, is_test, needs_data, is_null_model, is_bad_datum, is_bad_data};
 
 use crate::attributes::{given, has, is_text_at, text_at};
 use crate::index::ChartIndex;

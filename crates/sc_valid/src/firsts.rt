@@ -55,7 +55,7 @@ impl Firsts {
             return Ok(());
         }
         self.paths
-            .insert(Vec::from_slice(alloc, id)?, path.copy(alloc)?)?;
+            .insert(Vec::from_slice(alloc, id)?, path.copy()?)?;
         Ok(())
     }
 }

@@ -1,15 +1,15 @@
 ghost use Rattle.std.specs.Prelude.{◌≡◌, IfOk, option_map};
 ghost use Rattle.std.specs.Option.{option_copied};
-ghost use Rattle.sc_types.specs.Elements.{is_state};
+ghost use Rattle.sc_types.specs.Elements.{is_numbered};
 ghost use Rattle.sc_types.specs.declared.attribute.Attribute.TheVariants as attribute;
 ghost use Rattle.sc_types.specs.declared.chart.Tag.TheVariants as tag_name;
-ghost use Rattle.sc_law.specs.Tree.{tag_of};
-ghost use Rattle.sc_law.specs.Legality.{elements, element, parent, own_place, earlier, is_tag, state_named, is_repeated, is_double_id};
+ghost use Rattle.sc_law.specs.Nodes.{tag_of, elements, element, parent, is_tag};
+ghost use Rattle.sc_law.specs.Legality.{own_place, earlier, path_named, is_repeated, is_double_id};
 ghost use Rattle.sc_valid.specs.Firsts.{first_of, HasFirsts, is_later};
 
 use crate::attributes::text_at;
 use crate::firsts::Firsts;
-use sc_law::{Path, node_at};
+use sc_law::{Path, element};
 use sc_types::{Attribute, Chart, NoMemory, Node, Plain, Tag};
 use std::alloc::Global;
 use std::marker::Model;
@@ -24,11 +24,11 @@ pub(crate) struct ChartIndex<'c> {
 }
 
 impl<'c> Model for ChartIndex<'c> {
-    ghost use Rattle.sc_types.specs.Elements.{is_state};
+    ghost use Rattle.sc_types.specs.Elements.{is_numbered};
     ghost use Rattle.sc_types.specs.declared.chart.Chart.{Chart};
     ghost use Rattle.sc_types.specs.declared.chart.Tag.TheVariants as tag_name;
     ghost use Rattle.sc_types.specs.contracts.chart.Chart as chart_type;
-    ghost use Rattle.sc_law.specs.Legality.{is_tag};
+    ghost use Rattle.sc_law.specs.Nodes.{is_tag};
     ghost use Rattle.std.specs.Coded.{codes};
     ghost use Rattle.sc_valid.specs.Firsts.{HasFirsts};
 
@@ -38,7 +38,7 @@ impl<'c> Model for ChartIndex<'c> {
 
     ghost view = { λ i. i.chart.now };
 
-    ghost invariant = { λ i. HasFirsts i.states is_state i.chart.now × HasFirsts i.invokes (is_tag tag_name.Invoke) i.chart.now × HasFirsts i.data_items (is_tag tag_name.DataItem) i.chart.now };
+    ghost invariant = { λ i. HasFirsts i.states is_numbered i.chart.now × HasFirsts i.invokes (is_tag tag_name.Invoke) i.chart.now × HasFirsts i.data_items (is_tag tag_name.DataItem) i.chart.now };
 }
 
 impl<'c> ChartIndex<'c> {
@@ -56,7 +56,7 @@ impl<'c> ChartIndex<'c> {
         let mut data_items = Firsts::new(alloc);
         for path in paths {
             let node = element(chart, path.slice());
-            states.add(alloc, node.tag.is_state(), node, path)?;
+            states.add(alloc, node.tag.is_numbered(), node, path)?;
             invokes.add(alloc, is_invoke(node.tag), node, path)?;
             data_items.add(alloc, is_data_item(node.tag), node, path)?;
         }
@@ -107,8 +107,8 @@ impl<'c> ChartIndex<'c> {
     }
 
     /// The path of the state of an id.
-    pub(crate) fn state_named(&self, id: &[u8]) -> Option<&Path>
-        ensures { option_copied result ≡ state_named self.now id.now }
+    pub(crate) fn path_named(&self, id: &[u8]) -> Option<&Path>
+        ensures { option_copied result ≡ path_named self.now id.now }
     {
         self.states.find(id)
     }
@@ -117,7 +117,7 @@ impl<'c> ChartIndex<'c> {
         ensures { result ≡ is_double_id self.now path.now }
     {
         let node = self.element(path);
-        node.tag.is_state() && is_later(&self.states, text_at(Attribute::Id, node), path)
+        node.tag.is_numbered() && is_later(&self.states, text_at(Attribute::Id, node), path)
     }
 
     /// Whether an earlier invoke has the id of this one.
@@ -134,16 +134,6 @@ impl<'c> ChartIndex<'c> {
     {
         let node = self.element(path);
         is_data_item(node.tag) && is_later(&self.data_items, text_at(Attribute::Id, node), path)
-    }
-}
-
-/// The element at a path; the root where there is none.
-fn element<'a>(chart: &'a Chart, path: &[usize]) -> &'a Node
-    ensures { result.now ≡ element chart.now path.now }
-{
-    match node_at(&chart.root, path) {
-        Some(node) => node,
-        None => &chart.root,
     }
 }
 

@@ -2,8 +2,9 @@ ghost use Rattle.std.specs.Prelude.{◌≡◌, IfOk, option_map, filter, true, n
 ghost use Rattle.std.specs.List.{list_any};
 ghost use Rattle.std.specs.Option.{option_copied, option_map_or};
 ghost use Rattle.sc_types.specs.declared.chart.Tag.TheVariants as tag_name;
-ghost use Rattle.sc_law.specs.Tree.{tag_of, is_atomic_element};
-ghost use Rattle.sc_law.specs.Legality.{is_tag, element, parent, is_default, only_default, default_ids, is_bad_member, are_bad_defaults, is_bad_element, is_bad_initial, is_bad_recorded, are_bad_recorded, is_bad_history, is_state_or_parallel, are_below, targets};
+ghost use Rattle.sc_law.specs.Nodes.{tag_of, is_tag, element, parent};
+ghost use Rattle.sc_law.specs.Tree.{is_atomic_element};
+ghost use Rattle.sc_law.specs.Legality.{is_default, only_default, default_ids, is_bad_member, are_bad_defaults, is_bad_element, is_bad_initial, is_bad_recorded, are_bad_recorded, is_bad_history, is_state_or_parallel, are_below, targets};
 ghost use Rattle.sc_valid.specs.Only.{only};
 
 use crate::attributes::{has, is_text_at, words_at};

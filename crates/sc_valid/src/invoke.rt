@@ -3,7 +3,8 @@ ghost use Rattle.std.specs.Char.{digit_value};
 ghost use Rattle.std.specs.Str.Parse.{digits_value};
 ghost use Rattle.sc_types.specs.declared.attribute.Attribute.TheVariants as attribute;
 ghost use Rattle.sc_types.specs.declared.chart.Tag.TheVariants as tag_name;
-ghost use Rattle.sc_law.specs.Legality.{has, has_kid, is_text_at, is_bad_limit, is_bad_send_node, is_bad_send, is_bad_invoke, is_empty_finalize};
+ghost use Rattle.sc_law.specs.Nodes.{has, is_text_at};
+ghost use Rattle.sc_law.specs.Legality.{has_kid, is_bad_limit, is_bad_send_node, is_bad_send, is_bad_invoke, is_empty_finalize};
 
 use crate::attributes::{has, is_text_at, text_at};
 use crate::index::ChartIndex;

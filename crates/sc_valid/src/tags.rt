@@ -1,7 +1,7 @@
 ghost use Rattle.std.specs.Prelude.{◌≡◌};
 ghost use Rattle.std.specs.List.{list_any};
-ghost use Rattle.sc_law.specs.Tree.{tag_of};
-ghost use Rattle.sc_law.specs.Legality.{is_tag, is_state_or_parallel, is_content, may_hold, is_single, has_kid};
+ghost use Rattle.sc_law.specs.Nodes.{tag_of, is_tag};
+ghost use Rattle.sc_law.specs.Legality.{is_state_or_parallel, is_content, may_hold, is_single, has_kid};
 
 use sc_types::{Node, Plain, Tag};
 

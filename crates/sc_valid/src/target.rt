@@ -1,8 +1,8 @@
 ghost use Rattle.std.specs.Prelude.{◌≡◌, IfOk};
 ghost use Rattle.std.specs.List.{list_all, list_any};
 ghost use Rattle.std.specs.Prelude.{is_none};
-ghost use Rattle.sc_law.specs.Tree.{tag_of};
-ghost use Rattle.sc_law.specs.Legality.{is_tag, element, state_named, target_ids, has_unknown_target, targets, common, is_history_of, are_orthogonal, all_orthogonal, are_below, is_transition, has_bad_targets, is_empty_transition};
+ghost use Rattle.sc_law.specs.Nodes.{tag_of, is_tag, element};
+ghost use Rattle.sc_law.specs.Legality.{path_named, target_ids, has_unknown_target, targets, common, is_history_of, are_orthogonal, all_orthogonal, are_below, is_transition, has_bad_targets, is_empty_transition};
 ghost use Rattle.sc_types.specs.declared.chart.Tag.TheVariants as tag_name;
 
 use crate::attributes::{has, words_at};
@@ -21,15 +21,15 @@ impl<'c> ChartIndex<'c> {
     }
 
     fn has_unknown(&self, ids: &[Bytes]) -> bool
-        ensures { result ≡ list_any (λ id. is_none (state_named self.now id)) ids.now }
+        ensures { result ≡ list_any (λ id. is_none (path_named self.now id)) ids.now }
     {
         ids.iter().any(|id| self.is_unknown(id.slice()))
     }
 
     fn is_unknown(&self, id: &[u8]) -> bool
-        ensures { result ≡ is_none (state_named self.now id.now) }
+        ensures { result ≡ is_none (path_named self.now id.now) }
     {
-        self.state_named(id).is_none()
+        self.path_named(id).is_none()
     }
 
     /// The targets that there are.
@@ -38,8 +38,8 @@ impl<'c> ChartIndex<'c> {
     {
         let mut targets = Sequence::new(alloc);
         for id in ids {
-            if let Some(path) = self.state_named(id.slice()) {
-                targets.push(path.copy(alloc)?)?;
+            if let Some(path) = self.path_named(id.slice()) {
+                targets.push(path.copy()?)?;
             }
         }
         Ok(targets)

@@ -1,13 +1,13 @@
-ghost use Rattle.std.specs.Prelude.{◌≡◌, ◌++◌, [], Option, Some, None, Ok, Err, IfOk, OnOk};
+ghost use Rattle.std.specs.Prelude.{◌≡◌, [], Option, Some, None, Ok, Err, IfOk};
 ghost use Rattle.sc_types.specs.ChartTexts.{fault};
 ghost use Rattle.sc_types.specs.declared.chart.ChartFault.{ChartFault};
-ghost use Rattle.sc_law.specs.Legality.{elements_from, first_fault, legal_fault, number_at};
+ghost use Rattle.sc_law.specs.Legality.{first_fault, legal_fault, number_at};
 ghost use Rattle.sc_valid.specs.Numbers.{later_number};
 
 use crate::index::ChartIndex;
 use crate::legal::LegalChart;
-use sc_law::Path;
-use sc_types::{Chart, ChartFault, ChartRefusal, NoMemory, Node, Plain, Sequence};
+use sc_law::{Path, element_paths};
+use sc_types::{Chart, ChartFault, ChartRefusal, NoMemory, Sequence};
 use std::alloc::Global;
 
 const DOUBLE_ID: u8 = 20;
@@ -50,8 +50,7 @@ pub fn validate(alloc: Global, chart: Chart) -> Result<LegalChart, ChartRefusal>
 fn fault_of(alloc: Global, chart: &Chart) -> Result<Option<ChartFault>, NoMemory>
     ensures { IfOk result (λ o. o ≡ legal_fault chart.now) }
 {
-    let mut paths = Sequence::new(alloc);
-    add_paths(alloc, &mut paths, &chart.root, &Sequence::new(alloc))?;
+    let paths = element_paths(alloc, chart)?;
     let index = ChartIndex::new(alloc, chart, paths.slice())?;
     index.first_fault(alloc, paths.slice())
 }
@@ -135,23 +134,4 @@ fn short_path(alloc: Global, path: &[usize]) -> Result<Sequence<u32>, NoMemory>
         }
     }
     Ok(short)
-}
-
-/// Adds the path of an element, and those of the elements below it.
-#[cycle(paths)]
-fn add_paths(
-    alloc: Global,
-    out: &mut Sequence<Path>,
-    node: &Node,
-    path: &Path,
-) -> Result<(), NoMemory>
-    ensures { OnOk result (out.new ≡ out.old ++ elements_from node.now path.now) }
-{
-    out.push(path.copy(alloc)?)?;
-    for (place, kid) in node.kids.slice().iter().enumerate() {
-        let mut below = path.copy(alloc)?;
-        below.push(place)?;
-        add_paths(alloc, out, kid, &below)?;
-    }
-    Ok(())
 }

@@ -7,7 +7,7 @@ use Rattle.serde_json.specs.Data.{Data, string, array, object, Items, no_items, 
 use Rattle.serde_json.specs.Find.{get, get_member, as_array}
 use Rattle.serde_json.proofs.Views.{get_member-put, get_member-put_other}
 use Rattle.sc_types.specs.ChartTexts.{Reading, text_at, tag_at, kids_at, fault, is_known, are_known, has_known_members, is_given, has_fit_kids, is_fit, has_one, has_fit_members, is_bad_code, bad_code, tagged_fault, own_fault, member_of, member_at, members_at}
-use Rattle.sc_types.specs.Elements.{tag_text, tag_of, is_state, attribute_text, attributes, required, either, form_of}
+use Rattle.sc_types.specs.Elements.{tag_text, tag_of, is_numbered, attribute_text, attributes, required, either, form_of}
 use Rattle.sc_types.specs.PrintedCharts.{put_members, put_kids}
 use Rattle.sc_types.specs.declared.attribute.Attribute.{Attribute}
 use Rattle.sc_types.specs.declared.chart.ChartFault.{ChartFault}
@@ -256,14 +256,14 @@ pub tagged_again : (code_of : Reading) → ReadsPrinted code_of → (before : �
     → IsGood code_of before path tag d (printed code_of tag d kids)
 tagged_again code_of again before path tag d kids none =
     let is = clean (fault 4 path []) (fault 5 path []) (fault 8 path []) (λ a. fault 6 path (attribute_text a))
-    (has_known_members tag d) (has_fit_members tag d) (bad_code code_of tag d) (is_state tag && nat_le 4096 before) none in
+    (has_known_members tag d) (has_fit_members tag d) (bad_code code_of tag d) (is_numbered tag && nat_le 4096 before) none in
     let three = and_parts _ (option_map_or (has_one d) (either tag) true) is.fit in
     let two = and_parts _ (list_all (is_given d) (required tag)) three.0 in
     let fit = (and_parts (has_fit_kids d) (list_all (is_fit tag d) (attributes tag)) two.0).1 in
     record {
       none = no_fault (fault 4 path []) (fault 5 path []) (fault 8 path []) (λ a. fault 6 path (attribute_text a))
           (has_known_members tag (printed code_of tag d kids)) (has_fit_members tag (printed code_of tag d kids))
-          (bad_code code_of tag (printed code_of tag d kids)) (is_state tag && nat_le 4096 before)
+          (bad_code code_of tag (printed code_of tag d kids)) (is_numbered tag && nat_le 4096 before)
           (known_again code_of tag d kids) (fit_members code_of tag d kids again fit is.good two.1 three.1)
           (good_members code_of tag d kids again fit is.good) is.room;
       members = members_again code_of tag d kids again fit is.good;

@@ -8,7 +8,7 @@ use Rattle.sc_types.specs.ChartTexts.{Reading, member_of}
 use Rattle.sc_types.specs.Elements.{has_form, is_code, is_word_within}
 use Rattle.sc_types.specs.Expressions.{expr_text}
 use Rattle.sc_types.specs.PrintedCharts.{member_text}
-use Rattle.sc_types.specs.Text.{is_word, is_plain_name}
+use Rattle.sc_base.specs.Text.{is_word, is_plain_name}
 use Rattle.sc_types.specs.declared.attribute.Form.{Form}
 use Rattle.sc_types.specs.declared.attribute.Form.TheVariants as form
 use Rattle.sc_types.specs.declared.chart.Member.{Member}

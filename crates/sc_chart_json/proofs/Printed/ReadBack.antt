@@ -15,7 +15,7 @@ use Rattle.sc_types.specs.Tokens.{tokens}
 use Rattle.sc_types.specs.declared.chart.Chart.{Chart}
 use Rattle.sc_types.specs.declared.chart.ChartFault.{ChartFault}
 use Rattle.sc_types.specs.declared.expr.Expr.{Expr}
-use Rattle.sc_types.specs.declared.memory.NoMemory.{NoMemory}
+use Rattle.sc_base.specs.declared.memory.NoMemory.{NoMemory}
 use Rattle.sc_expr.specs.Reading.{expr_of}
 use Rattle.sc_expr.proofs.Grammar.{spelled_reads}
 use Rattle.sc_expr.proofs.Limits.{within_limits}

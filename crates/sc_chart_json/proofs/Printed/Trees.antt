@@ -4,7 +4,7 @@ use Rattle.std.specs.Option.{option_map_or}
 use Rattle.serde_json.specs.Data.{Data, Items, no_items, item}
 use Rattle.serde_json.specs.View.{items_of}
 use Rattle.sc_types.specs.ChartTexts.{Reading, tag_at, kids_at, Place, kid_places, places, own_fault, states_at, or_else, first_fault, node, members_at, kid_trees, tagged_tree, tree}
-use Rattle.sc_types.specs.Elements.{is_state}
+use Rattle.sc_types.specs.Elements.{is_numbered}
 use Rattle.sc_types.specs.PrintedCharts.{data_step, data_of}
 use Rattle.sc_types.specs.declared.chart.ChartFault.{ChartFault}
 use Rattle.sc_types.specs.declared.chart.Member.{Member}
@@ -115,7 +115,7 @@ items_again code_of levels goes before path k (item d ds) none =
     }
 
 abbrev state_of : Option Tag → ℕ
-state_of o = if option_map_or is_state o false then 1 else 0
+state_of o = if option_map_or is_numbered o false then 1 else 0
 
 element_again : (code_of : Reading) → ReadsPrinted code_of → (levels : ℕ) → GoesAgain code_of levels → (before : ℕ) (path : List ℕ) (d : Data)
     → (own : own_fault code_of before record { path = path; value = d } ≡ None)

@@ -3,100 +3,98 @@ ghost use Rattle.std.specs.List.{flat_map};
 ghost use Rattle.sc_law.specs.Lines.{line, command_text};
 ghost use Rattle.sc_law.specs.Report.{who_text, reply_text, log_text, delivery_text, entry_text, entries_text};
 
-use crate::report::lines::{end_line, put, put_command, put_number};
+use crate::report::lines::put_command;
 use crate::report::replies::{put_reply, put_who};
 use sc_expr::{put_text, put_value};
-use sc_types::{Command, Delivery, Entry, LogLine, NoMemory, Reply, Who};
-use std::alloc::Global;
+use sc_base::{NoMemory, TextWriter};
+use sc_types::{Command, Delivery, Entry, LogLine, Reply, Who};
 
-fn put_log(alloc: Global, out: &mut Vec<u8>, log: &LogLine) -> Result<(), NoMemory>
-    ensures { OnOk result (out.new.items ≡ out.old.items ++ log_text log.now) }
+fn put_log(out: &mut TextWriter, log: &LogLine) -> Result<(), NoMemory>
+    ensures { OnOk result (out.new ≡ out.old ++ log_text log.now) }
 {
-    put(out, b"> ")?;
+    out.text("> ")?;
     put_text(out, log.label.slice())?;
-    put(out, b" ")?;
-    put_value(alloc, out, &log.value)?;
-    end_line(out)
+    out.text(" ")?;
+    put_value(out, &log.value)?;
+    out.end_line()
 }
 
-fn put_logs(alloc: Global, out: &mut Vec<u8>, logs: &[LogLine]) -> Result<(), NoMemory>
-    ensures { OnOk result (out.new.items ≡ out.old.items ++ flat_map log_text logs.now) }
+fn put_logs(out: &mut TextWriter, logs: &[LogLine]) -> Result<(), NoMemory>
+    ensures { OnOk result (out.new ≡ out.old ++ flat_map log_text logs.now) }
 {
     for log in logs {
-        put_log(alloc, out, log)?;
+        put_log(out, log)?;
     }
     Ok(())
 }
 
-fn put_delivery(alloc: Global, out: &mut Vec<u8>, delivery: &Delivery) -> Result<(), NoMemory>
-    ensures { OnOk result (out.new.items ≡ out.old.items ++ delivery_text delivery.now) }
+fn put_delivery(out: &mut TextWriter, delivery: &Delivery) -> Result<(), NoMemory>
+    ensures { OnOk result (out.new ≡ out.old ++ delivery_text delivery.now) }
 {
     match delivery {
         Delivery::Queued { number, session } => {
-            put(out, b"* queued ")?;
-            put_number(alloc, out, *number)?;
-            put(out, b" ")?;
-            put(out, session.bytes())?;
-            end_line(out)
+            out.text("* queued ")?;
+            out.number(*number)?;
+            out.text(" ")?;
+            out.bytes(session.bytes())?;
+            out.end_line()
         }
     }
 }
 
-fn put_deliveries(alloc: Global, out: &mut Vec<u8>, sent: &[Delivery]) -> Result<(), NoMemory>
-    ensures { OnOk result (out.new.items ≡ out.old.items ++ flat_map delivery_text sent.now) }
+fn put_deliveries(out: &mut TextWriter, sent: &[Delivery]) -> Result<(), NoMemory>
+    ensures { OnOk result (out.new ≡ out.old ++ flat_map delivery_text sent.now) }
 {
     for delivery in sent {
-        put_delivery(alloc, out, delivery)?;
+        put_delivery(out, delivery)?;
     }
     Ok(())
 }
 
 /// The line of a command that has this number in its history.
 fn put_command_line(
-    alloc: Global,
-    out: &mut Vec<u8>,
+    out: &mut TextWriter,
     number: usize,
     who: Who,
     command: &Command,
 ) -> Result<(), NoMemory>
-    ensures { OnOk result (out.new.items
-        ≡ out.old.items
+    ensures { OnOk result (out.new
+        ≡ out.old
         ++ line (decimal number ++ codes " " ++ who_text who ++ codes " " ++ command_text command.now)) }
 {
-    put_number(alloc, out, number as u128)?;
-    put(out, b" ")?;
-    put_who(alloc, out, who)?;
-    put(out, b" ")?;
-    put_command(alloc, out, command)?;
-    end_line(out)
+    out.number(number as u128)?;
+    out.text(" ")?;
+    put_who(out, who)?;
+    out.text(" ")?;
+    put_command(out, command)?;
+    out.end_line()
 }
 
-fn put_reply_line(alloc: Global, out: &mut Vec<u8>, reply: &Reply) -> Result<(), NoMemory>
-    ensures { OnOk result (out.new.items ≡ out.old.items ++ line (codes "= " ++ reply_text reply.now)) }
+fn put_reply_line(out: &mut TextWriter, reply: &Reply) -> Result<(), NoMemory>
+    ensures { OnOk result (out.new ≡ out.old ++ line (codes "= " ++ reply_text reply.now)) }
 {
-    put(out, b"= ")?;
-    put_reply(alloc, out, reply)?;
-    end_line(out)
+    out.text("= ")?;
+    put_reply(out, reply)?;
+    out.end_line()
 }
 
-fn put_entry(alloc: Global, out: &mut Vec<u8>, number: usize, entry: &Entry) -> Result<(), NoMemory>
-    ensures { OnOk result (out.new.items ≡ out.old.items ++ entry_text number entry.now) }
+fn put_entry(out: &mut TextWriter, number: usize, entry: &Entry) -> Result<(), NoMemory>
+    ensures { OnOk result (out.new ≡ out.old ++ entry_text number entry.now) }
 {
-    put_command_line(alloc, out, number, entry.who, &entry.command)?;
-    put_reply_line(alloc, out, &entry.reply)?;
-    put_logs(alloc, out, entry.logs.slice())?;
-    put_deliveries(alloc, out, entry.sent.slice())
+    put_command_line(out, number, entry.who, &entry.command)?;
+    put_reply_line(out, &entry.reply)?;
+    put_logs(out, entry.logs.slice())?;
+    put_deliveries(out, entry.sent.slice())
 }
 
 pub(crate) fn put_entries(
-    alloc: Global,
-    out: &mut Vec<u8>,
+    out: &mut TextWriter,
     history: &[Entry],
 ) -> Result<(), NoMemory>
-    ensures { OnOk result (out.new.items ≡ out.old.items ++ entries_text 1 history.now) }
+    ensures { OnOk result (out.new ≡ out.old ++ entries_text 1 history.now) }
 {
     for (place, entry) in history.iter().enumerate() {
-        put_entry(alloc, out, place + 1, entry)?;
+        put_entry(out, place + 1, entry)?;
     }
     Ok(())
 }

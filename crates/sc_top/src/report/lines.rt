@@ -3,84 +3,63 @@ ghost use Rattle.std.specs.List.{flat_map};
 ghost use Rattle.sc_law.specs.Lines.{line, pair_text, command_text};
 
 use sc_expr::put_value;
-use sc_types::{Command, NoMemory, PlainName, Value};
-use std::alloc::Global;
-
-pub(crate) fn put(out: &mut Vec<u8>, text: &[u8]) -> Result<(), NoMemory>
-    ensures { OnOk result (out.new.items ≡ out.old.items ++ text.now) }
-{
-    out.extend_from_slice(text)?;
-    Ok(())
-}
-
-pub(crate) fn end_line(out: &mut Vec<u8>) -> Result<(), NoMemory>
-    ensures { OnOk result (out.new.items ≡ out.old.items ++ 10 ∷ []) }
-{
-    put(out, b"\n")
-}
-
-pub(crate) fn put_number(alloc: Global, out: &mut Vec<u8>, number: u128) -> Result<(), NoMemory>
-    ensures { OnOk result (out.new.items ≡ out.old.items ++ decimal number) }
-{
-    put(out, number.to_string(alloc)?.as_bytes())
-}
+use sc_base::{NoMemory, PlainName, TextWriter};
+use sc_types::{Command, Value};
 
 /// A line of a word and a number.
 pub(crate) fn put_counted(
-    alloc: Global,
-    out: &mut Vec<u8>,
+    out: &mut TextWriter,
     word: &[u8],
     number: u128,
 ) -> Result<(), NoMemory>
-    ensures { OnOk result (out.new.items ≡ out.old.items ++ line (word.now ++ decimal number)) }
+    ensures { OnOk result (out.new ≡ out.old ++ line (word.now ++ decimal number)) }
 {
-    put(out, word)?;
-    put_number(alloc, out, number)?;
-    end_line(out)
+    out.bytes(word)?;
+    out.number(number)?;
+    out.end_line()
 }
 
-fn put_pair(alloc: Global, out: &mut Vec<u8>, pair: &(PlainName, Value)) -> Result<(), NoMemory>
-    ensures { OnOk result (out.new.items ≡ out.old.items ++ pair_text pair.now) }
+fn put_pair(out: &mut TextWriter, pair: &(PlainName, Value)) -> Result<(), NoMemory>
+    ensures { OnOk result (out.new ≡ out.old ++ pair_text pair.now) }
 {
-    put(out, b" ")?;
-    put(out, pair.0.bytes())?;
-    put(out, b"=")?;
-    put_value(alloc, out, &pair.1)
+    out.text(" ")?;
+    out.bytes(pair.0.bytes())?;
+    out.text("=")?;
+    put_value(out, &pair.1)
 }
 
-fn put_pairs(alloc: Global, out: &mut Vec<u8>, pairs: &[(PlainName, Value)]) -> Result<(), NoMemory>
-    ensures { OnOk result (out.new.items ≡ out.old.items ++ flat_map pair_text pairs.now) }
+fn put_pairs(out: &mut TextWriter, pairs: &[(PlainName, Value)]) -> Result<(), NoMemory>
+    ensures { OnOk result (out.new ≡ out.old ++ flat_map pair_text pairs.now) }
 {
     for pair in pairs {
-        put_pair(alloc, out, pair)?;
+        put_pair(out, pair)?;
     }
     Ok(())
 }
 
 /// A word before the first name of a command, that name and a space.
-fn put_named(out: &mut Vec<u8>, word: &[u8], name: &[u8]) -> Result<(), NoMemory>
-    ensures { OnOk result (out.new.items ≡ out.old.items ++ word.now ++ name.now ++ 32 ∷ []) }
+fn put_named(out: &mut TextWriter, word: &[u8], name: &[u8]) -> Result<(), NoMemory>
+    ensures { OnOk result (out.new ≡ out.old ++ word.now ++ name.now ++ 32 ∷ []) }
 {
-    put(out, word)?;
-    put(out, name)?;
-    put(out, b" ")
+    out.bytes(word)?;
+    out.bytes(name)?;
+    out.text(" ")
 }
 
 pub(crate) fn put_command(
-    alloc: Global,
-    out: &mut Vec<u8>,
+    out: &mut TextWriter,
     command: &Command,
 ) -> Result<(), NoMemory>
-    ensures { OnOk result (out.new.items ≡ out.old.items ++ command_text command.now) }
+    ensures { OnOk result (out.new ≡ out.old ++ command_text command.now) }
 {
     match command {
         Command::Install { name, chart } => {
             put_named(out, b"chart ", name.bytes())?;
-            put(out, chart.slice())
+            out.bytes(chart.slice())
         }
         Command::Start { session, chart } => {
             put_named(out, b"start ", session.bytes())?;
-            put(out, chart.bytes())
+            out.bytes(chart.bytes())
         }
         Command::Post {
             session,
@@ -88,12 +67,12 @@ pub(crate) fn put_command(
             pairs,
         } => {
             put_named(out, b"post ", session.bytes())?;
-            put(out, event.bytes())?;
-            put_pairs(alloc, out, pairs.slice())
+            out.bytes(event.bytes())?;
+            put_pairs(out, pairs.slice())
         }
         Command::Step { session } => {
-            put(out, b"step ")?;
-            put(out, session.bytes())
+            out.text("step ")?;
+            out.bytes(session.bytes())
         }
     }
 }

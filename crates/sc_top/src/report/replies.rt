@@ -1,125 +1,124 @@
 ghost use Rattle.std.specs.Prelude.{◌≡◌, ◌++◌, OnOk};
 ghost use Rattle.sc_law.specs.Report.{who_text, path_rest, path_text, fault_text, how_text, refusal_text, cue_text, reply_text};
 
-use crate::report::lines::{put, put_number};
-use sc_types::{ChartFault, CueName, How, NoMemory, Refusal, Reply, Who};
-use std::alloc::Global;
+use sc_base::{NoMemory, TextWriter};
+use sc_types::{ChartFault, CueName, How, Refusal, Reply, Who};
 
-pub(crate) fn put_who(alloc: Global, out: &mut Vec<u8>, who: Who) -> Result<(), NoMemory>
-    ensures { OnOk result (out.new.items ≡ out.old.items ++ who_text who) }
+pub(crate) fn put_who(out: &mut TextWriter, who: Who) -> Result<(), NoMemory>
+    ensures { OnOk result (out.new ≡ out.old ++ who_text who) }
 {
     match who {
         Who::Client(number) => {
-            put(out, b"c")?;
-            put_number(alloc, out, u128::from(number))
+            out.text("c")?;
+            out.number(u128::from(number))
         }
-        Who::Worker => put(out, b"w"),
+        Who::Worker => out.text("w"),
     }
 }
 
-fn put_path_rest(alloc: Global, out: &mut Vec<u8>, places: &[u32]) -> Result<(), NoMemory>
-    ensures { OnOk result (out.new.items ≡ out.old.items ++ path_rest places.now) }
+fn put_path_rest(out: &mut TextWriter, places: &[u32]) -> Result<(), NoMemory>
+    ensures { OnOk result (out.new ≡ out.old ++ path_rest places.now) }
 {
     for place in places {
-        put(out, b".")?;
-        put_number(alloc, out, u128::from(*place))?;
+        out.text(".")?;
+        out.number(u128::from(*place))?;
     }
     Ok(())
 }
 
-fn put_path(alloc: Global, out: &mut Vec<u8>, path: &[u32]) -> Result<(), NoMemory>
-    ensures { OnOk result (out.new.items ≡ out.old.items ++ path_text path.now) }
+fn put_path(out: &mut TextWriter, path: &[u32]) -> Result<(), NoMemory>
+    ensures { OnOk result (out.new ≡ out.old ++ path_text path.now) }
 {
     match path {
-        [] => put(out, b"-"),
+        [] => out.text("-"),
         [place, places @ ..] => {
-            put_number(alloc, out, u128::from(*place))?;
-            put_path_rest(alloc, out, places)
+            out.number(u128::from(*place))?;
+            put_path_rest(out, places)
         }
     }
 }
 
 pub(crate) fn put_fault(
-    alloc: Global,
-    out: &mut Vec<u8>,
+    out: &mut TextWriter,
     fault: &ChartFault,
 ) -> Result<(), NoMemory>
-    ensures { OnOk result (out.new.items ≡ out.old.items ++ fault_text fault.now) }
+    ensures { OnOk result (out.new ≡ out.old ++ fault_text fault.now) }
 {
-    put_number(alloc, out, u128::from(fault.number))?;
-    put(out, b" ")?;
-    put_path(alloc, out, fault.path.slice())?;
+    out.number(u128::from(fault.number))?;
+    out.text(" ")?;
+    put_path(out, fault.path.slice())?;
     if fault.number == 6 {
-        put(out, b" ")?;
-        put(out, fault.member.slice())?;
+        out.text(" ")?;
+        out.bytes(fault.member.slice())?;
     }
     Ok(())
 }
 
-pub(crate) fn put_how(out: &mut Vec<u8>, how: &How) -> Result<(), NoMemory>
-    ensures { OnOk result (out.new.items ≡ out.old.items ++ how_text how.now) }
+pub(crate) fn put_how(out: &mut TextWriter, how: &How) -> Result<(), NoMemory>
+    ensures { OnOk result (out.new ≡ out.old ++ how_text how.now) }
 {
     match how {
-        How::Final(_) => put(out, b"final"),
-        How::Cancelled => put(out, b"cancelled"),
-        How::Runaway => put(out, b"runaway"),
+        How::Final(_) => out.text("final"),
+        How::Cancelled => out.text("cancelled"),
+        How::Runaway => out.text("runaway"),
     }
 }
 
-fn put_refusal(alloc: Global, out: &mut Vec<u8>, refusal: &Refusal) -> Result<(), NoMemory>
-    ensures { OnOk result (out.new.items ≡ out.old.items ++ refusal_text refusal.now) }
+fn put_refusal(out: &mut TextWriter, refusal: &Refusal) -> Result<(), NoMemory>
+    ensures { OnOk result (out.new ≡ out.old ++ refusal_text refusal.now) }
 {
     match refusal {
         Refusal::BadChart(fault) => {
-            put(out, b"1 bad-chart ")?;
-            put_fault(alloc, out, fault)
+            out.text("1 bad-chart ")?;
+            put_fault(out, fault)
         }
-        Refusal::NameTaken => put(out, b"2 name-taken"),
-        Refusal::NoChart => put(out, b"3 no-chart"),
-        Refusal::NoSession => put(out, b"4 no-session"),
+        Refusal::NameTaken => out.text("2 name-taken"),
+        Refusal::NoChart => out.text("3 no-chart"),
+        Refusal::NoSession => out.text("4 no-session"),
         Refusal::Ended(how) => {
-            put(out, b"5 ended ")?;
+            out.text("5 ended ")?;
             put_how(out, how)
         }
         Refusal::TooLong(which) => {
-            put(out, b"6 too-long ")?;
-            put_number(alloc, out, u128::from(*which))
+            out.text("6 too-long ")?;
+            out.number(u128::from(*which))
         }
-        Refusal::Idle => put(out, b"8 idle"),
-        Refusal::BadName => put(out, b"9 bad-name"),
+        Refusal::Idle => out.text("8 idle"),
+        Refusal::BadName => out.text("9 bad-name"),
     }
 }
 
-fn put_cue(alloc: Global, out: &mut Vec<u8>, cue: CueName) -> Result<(), NoMemory>
-    ensures { OnOk result (out.new.items ≡ out.old.items ++ cue_text cue) }
+fn put_cue(out: &mut TextWriter, cue: CueName) -> Result<(), NoMemory>
+    ensures { OnOk result (out.new ≡ out.old ++ cue_text cue) }
 {
     match cue {
-        CueName::Fresh => put(out, b"fresh"),
-        CueName::Resume => put(out, b"resume"),
+        CueName::Fresh => out.text("fresh"),
+        CueName::Resume => out.text("resume"),
+        CueName::Cancel => out.text("cancel"),
         CueName::External(number) => {
-            put(out, b"external ")?;
-            put_number(alloc, out, number)
+            out.text("external ")?;
+            out.number(number)
         }
     }
 }
 
-pub(crate) fn put_reply(alloc: Global, out: &mut Vec<u8>, reply: &Reply) -> Result<(), NoMemory>
-    ensures { OnOk result (out.new.items ≡ out.old.items ++ reply_text reply.now) }
+pub(crate) fn put_reply(out: &mut TextWriter, reply: &Reply) -> Result<(), NoMemory>
+    ensures { OnOk result (out.new ≡ out.old ++ reply_text reply.now) }
 {
     match reply {
-        Reply::Installed => put(out, b"installed"),
-        Reply::Started => put(out, b"started"),
+        Reply::Installed => out.text("installed"),
+        Reply::Started => out.text("started"),
         Reply::Posted(number) => {
-            put(out, b"posted ")?;
-            put_number(alloc, out, *number)
+            out.text("posted ")?;
+            out.number(*number)
         }
         Reply::Stepped(cue) => {
-            put(out, b"stepped ")?;
-            put_cue(alloc, out, *cue)
+            out.text("stepped ")?;
+            put_cue(out, *cue)
         }
         Reply::Refused(refusal) => {
-            put(out, b"refused ")?;
-            put_refusal(alloc, out, refusal)
+            out.text("refused ")?;
+            put_refusal(out, refusal)
         }
     }
 }

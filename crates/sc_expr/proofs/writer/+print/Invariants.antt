@@ -4,4 +4,4 @@ use Rattle.sc_types.specs.Values.{joined}
 use Rattle.sc_expr.proofs.writer.+print.Given as goal
 
 abbrev pub invariant-put_list-loop-i : goal.invariant-put_list-loop-i
-invariant-put_list-loop-i l = l.out.items ≡ l.fn.out.items ++ (codes "[" ++ joined (map expr_text (take l.i l.items)))
+invariant-put_list-loop-i l = l.out ≡ l.fn.out ++ (codes "[" ++ joined (map expr_text (take l.i l.items)))

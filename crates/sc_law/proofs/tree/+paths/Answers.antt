@@ -1,12 +1,11 @@
 use Rattle.std.proofs.Common.{arith}
 use Rattle.std.proofs.lemmas.Grind.{common_steps}
-use Rattle.sc_law.proofs.Paths.{paths_from_node}
+use Rattle.sc_law.proofs.Paths.{elements_from_node}
 use Rattle.sc_law.proofs.tree.+paths.Goals as goal
 
 pub returns : goal.returns
 returns t c =
-    let e = paths_from_node c.args.node.now c.args.path.now in
+    let e = elements_from_node c.args.node.now c.args.path.now in
     let i = c.loop-place.invariant in
     let k = c.slice-kid-items.ensures in
-    let o = c.in_ok-add_own_path.ensures in
     grind (arith, common_steps)

@@ -1,8 +1,9 @@
 use Rattle.std.proofs.Common.{◌≡◌, ◌++◌, drop, map}
-use Rattle.sc_law.specs.Tree.{paths_of_kids, paths_from}
+use Rattle.sc_law.specs.Nodes.{elements_from}
+use Rattle.sc_law.proofs.Paths.{paths_of_kids}
 use Rattle.sc_law.proofs.tree.+paths.Given as goal
 
 abbrev pub invariant-loop-place : goal.invariant-loop-place
 invariant-loop-place l =
-    l.out ++ paths_of_kids l.path l.place (map paths_from (drop l.place l.kid-items))
-    ≡ l.initial.out ++ paths_of_kids l.path 0 (map paths_from l.kid-items)
+    l.out ++ paths_of_kids l.path l.place (map elements_from (drop l.place l.kid-items))
+    ≡ l.initial.out ++ paths_of_kids l.path 0 (map elements_from l.kid-items)

@@ -1,5 +1,5 @@
 use Rattle.std.proofs.Common.{◌≡◌, drop}
-use Rattle.sc_law.specs.Tree.{node_at}
+use Rattle.sc_law.specs.Nodes.{node_at}
 use Rattle.sc_law.proofs.tree.node_at.Given as goal
 
 abbrev pub invariant-loop-place : goal.invariant-loop-place

@@ -1,5 +1,6 @@
 use Rattle.std.proofs.Common.{◌≡◌, ◌++◌, drop}
-use Rattle.sc_law.specs.Tree.{numbers_where, leads_on}
+use Rattle.sc_law.specs.Nodes.{leads_on}
+use Rattle.sc_law.specs.Tree.{numbers_where}
 use Rattle.sc_law.proofs.tree.numbers_above.Given as goal
 
 abbrev pub invariant-loop-number : goal.invariant-loop-number

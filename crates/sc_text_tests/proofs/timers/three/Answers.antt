@@ -1,5 +1,5 @@
 use Rattle.std.proofs.Common.{[], arith}
-use Rattle.sc_timers.specs.Sends.{with_send}
+use Rattle.sc_types.specs.Sends.{with_send}
 use Rattle.sc_timers.proofs.CallerLemmas.{below-none, below-with_send}
 use Rattle.sc_text_tests.proofs.timers.three.Goals as goal
 

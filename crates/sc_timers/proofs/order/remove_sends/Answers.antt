@@ -1,6 +1,6 @@
 use Rattle.std.proofs.Common.{◌≡◌, ◌<◌, ◌≤◌, get_or, length, Option, refl, subst, arith, ap, sym, ◌∙◌}
 use Rattle.std.specs.Prelude.{IsSome}
-use Rattle.sc_timers.specs.declared.timed.Timed.{Timed}
+use Rattle.sc_types.specs.declared.host.TimerImage.{TimerImage}
 use Rattle.slab.specs.Slab.{get as send_at}
 use Rattle.std.proofs.lemmas.Grind.{get_or_default_zero}
 use Rattle.sc_timers.proofs.SendLemmas.{full-at}
@@ -18,7 +18,7 @@ loop-place-init c = record {
 pub send_in-requires-clause-full : goal.send_in-requires-clause-full
 send_in-requires-clause-full c =
     let within : c.loop-place.place < length c.args.order.now.items = omega (arith, c.loop-place-test.true, c.len-place-end.ensures, c.args.order.now.ok) in
-    let Full : Option Timed → Type 0 = λ o. IsSome o in
+    let Full : Option TimerImage → Type 0 = λ o. IsSome o in
     subst Full (sym (c.loop-place.invariant.sweeps.left c.loop-place.place (omega arith) within))
     (full-at (send_at c.args.sends.now) c.args.order.now.items c.loop-place.place c.requires.full within)
 

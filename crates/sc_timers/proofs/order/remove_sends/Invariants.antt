@@ -2,7 +2,7 @@ use Rattle.std.proofs.Common.{◌≡◌, ℕ, ◌≤◌, List}
 use Rattle.std.specs.Borrow.{Bor}
 use Rattle.std.specs.Option.{option_map}
 use Rattle.slab.specs.Slab.{get as send_at, slab_len}
-use Rattle.sc_timers.specs.Sends.{is_picked}
+use Rattle.sc_types.specs.Sends.{is_picked}
 use Rattle.sc_timers.proofs.Sweep.{Sweeps}
 use Rattle.sc_timers.proofs.order.remove_sends.Given as goal
 

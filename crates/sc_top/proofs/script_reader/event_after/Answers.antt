@@ -1,5 +1,5 @@
 use Rattle.std.proofs.Common.{◌≡◌, IsTrue, false, subst}
-use Rattle.sc_types.specs.Text.{IsPlainName}
+use Rattle.sc_base.specs.Text.{IsPlainName}
 use Rattle.sc_top.proofs.Lines.{post_line_words}
 use Rattle.sc_top.proofs.script_reader.event_after.Goals as goal
 

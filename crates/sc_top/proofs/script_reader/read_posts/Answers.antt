@@ -2,7 +2,7 @@ use Rattle.std.proofs.Common.{◌≡◌, ◌<◌, ◌++◌, [], ◌∷◌, Err, 
 use Rattle.std.proofs.lemmas.Bool.Decides.{nat_tests}
 use Rattle.std.proofs.lemmas.List.Elements.{All-push}
 use Rattle.std.proofs.lemmas.Result.{err_from_is_err_and}
-use Rattle.sc_types.specs.Text.{IsPlainName}
+use Rattle.sc_base.specs.Text.{IsPlainName}
 use Rattle.sc_top.specs.declared.script_reader.ScriptRefusal.TheVariants.{NotFirstForm}
 use Rattle.sc_top.proofs.Cuts.{no_cut, same_cut}
 use Rattle.sc_top.proofs.Posts.{next, posts_more, commands_more}

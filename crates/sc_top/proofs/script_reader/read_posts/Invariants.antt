@@ -1,5 +1,5 @@
 use Rattle.std.proofs.Common.{◌≡◌, ◌++◌, ℕ, List, All, length, map}
-use Rattle.sc_types.specs.Text.{IsPlainName}
+use Rattle.sc_base.specs.Text.{IsPlainName}
 use Rattle.sc_top.specs.FirstForm.{post_of}
 use Rattle.sc_top.specs.ScriptLines.{posts_text}
 use Rattle.sc_top.proofs.script_reader.read_posts.Given as goal

@@ -1,7 +1,6 @@
 use Rattle.std.proofs.Common.{◌≡◌, ◌++◌, drop, filter, option_copied}
 use Rattle.sc_types.specs.declared.chart.Tag.TheVariants.{Transition}
-use Rattle.sc_law.specs.Tree.{tag_of}
-use Rattle.sc_law.specs.Legality.{is_tag}
+use Rattle.sc_law.specs.Nodes.{tag_of, is_tag}
 use Rattle.sc_valid.specs.Only.{listed}
 use Rattle.sc_valid.proofs.initial.only_transition.Given as goal
 

@@ -4,4 +4,4 @@ use Rattle.sc_law.specs.Report.{delivery_text}
 use Rattle.sc_top.proofs.report.entries.put_deliveries.Given as goal
 
 abbrev pub invariant-loop-delivery : goal.invariant-loop-delivery
-invariant-loop-delivery l = l.out.items ++ flat_map delivery_text (drop l.delivery-index l.sent) ≡ l.initial.out.items ++ flat_map delivery_text l.sent
+invariant-loop-delivery l = l.out ++ flat_map delivery_text (drop l.delivery-index l.sent) ≡ l.initial.out ++ flat_map delivery_text l.sent

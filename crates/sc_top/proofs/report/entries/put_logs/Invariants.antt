@@ -4,4 +4,4 @@ use Rattle.sc_law.specs.Report.{log_text}
 use Rattle.sc_top.proofs.report.entries.put_logs.Given as goal
 
 abbrev pub invariant-loop-log : goal.invariant-loop-log
-invariant-loop-log l = l.out.items ++ flat_map log_text (drop l.log-index l.logs) ≡ l.initial.out.items ++ flat_map log_text l.logs
+invariant-loop-log l = l.out ++ flat_map log_text (drop l.log-index l.logs) ≡ l.initial.out ++ flat_map log_text l.logs

@@ -4,4 +4,4 @@ use Rattle.sc_law.specs.Lines.{pair_text}
 use Rattle.sc_top.proofs.report.lines.put_pairs.Given as goal
 
 abbrev pub invariant-loop-pair : goal.invariant-loop-pair
-invariant-loop-pair l = l.out.items ++ flat_map pair_text (drop l.pair-index l.pairs) ≡ l.initial.out.items ++ flat_map pair_text l.pairs
+invariant-loop-pair l = l.out ++ flat_map pair_text (drop l.pair-index l.pairs) ≡ l.initial.out ++ flat_map pair_text l.pairs

@@ -4,4 +4,4 @@ use Rattle.sc_law.specs.Report.{datum_text}
 use Rattle.sc_top.proofs.report.sessions.put_data.Given as goal
 
 abbrev pub invariant-loop-datum : goal.invariant-loop-datum
-invariant-loop-datum l = l.out.items ++ flat_map datum_text (drop l.datum-index l.values) ≡ l.initial.out.items ++ flat_map datum_text l.values
+invariant-loop-datum l = l.out ++ flat_map datum_text (drop l.datum-index l.values) ≡ l.initial.out ++ flat_map datum_text l.values

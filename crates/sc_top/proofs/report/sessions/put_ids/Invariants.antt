@@ -7,4 +7,4 @@ use Rattle.sc_law.specs.Report.{state_text}
 use Rattle.sc_top.proofs.report.sessions.put_ids.Given as goal
 
 abbrev pub invariant-loop-state : goal.invariant-loop-state
-invariant-loop-state l = l.out.items ++ flat_map (state_text (unwrap_or (option_copied l.tree) bare_chart)) (drop l.state-index l.states) ≡ l.initial.out.items ++ flat_map (state_text (unwrap_or (option_copied l.tree) bare_chart)) l.states
+invariant-loop-state l = l.out ++ flat_map (state_text (unwrap_or (option_copied l.tree) bare_chart)) (drop l.state-index l.states) ≡ l.initial.out ++ flat_map (state_text (unwrap_or (option_copied l.tree) bare_chart)) l.states

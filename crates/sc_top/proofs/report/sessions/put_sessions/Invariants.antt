@@ -4,4 +4,4 @@ use Rattle.sc_law.specs.Report.{session_text}
 use Rattle.sc_top.proofs.report.sessions.put_sessions.Given as goal
 
 abbrev pub invariant-loop-session : goal.invariant-loop-session
-invariant-loop-session l = l.out.items ++ flat_map (session_text l.host.image) (drop l.session-index l.session-items) ≡ l.initial.out.items ++ flat_map (session_text l.host.image) l.session-items
+invariant-loop-session l = l.out ++ flat_map (session_text l.host.image) (drop l.session-index l.session-items) ≡ l.initial.out ++ flat_map (session_text l.host.image) l.session-items

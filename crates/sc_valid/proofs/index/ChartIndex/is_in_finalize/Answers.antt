@@ -1,8 +1,8 @@
 use Rattle.std.proofs.Common.{◌≡◌, ◌∙◌, ◌||◌, ℕ, suc, ◌-◌, false, take, arith, ap}
 use Rattle.sc_types.specs.declared.chart.Chart.{Chart}
 use Rattle.sc_types.specs.declared.chart.Tag.TheVariants as tag_name
-use Rattle.sc_law.specs.Tree.{Path, tag_of}
-use Rattle.sc_law.specs.Legality.{element, is_tag, is_in_finalize}
+use Rattle.sc_law.specs.Nodes.{Path, tag_of, element, is_tag}
+use Rattle.sc_law.specs.Legality.{is_in_finalize}
 use Rattle.sc_valid.proofs.index.ChartIndex.is_in_finalize.Goals as goal
 
 -- where the next element above is no finalize, one stands above that element or none does

@@ -1,13 +1,13 @@
 use Rattle.std.proofs.Common.{take}
-use Rattle.sc_types.specs.Elements.{is_state}
+use Rattle.sc_types.specs.Elements.{is_numbered}
 use Rattle.sc_types.specs.declared.chart.Tag.TheVariants as tag_name
-use Rattle.sc_law.specs.Legality.{is_tag}
+use Rattle.sc_law.specs.Nodes.{is_tag}
 use Rattle.sc_valid.specs.Firsts.{AreFirsts}
 use Rattle.sc_valid.proofs.index.ChartIndex.new.Given as goal
 
 abbrev pub invariant-loop-path : goal.invariant-loop-path
 invariant-loop-path l = record {
-  states : AreFirsts l.states is_state l.chart (take l.path-index l.paths);
+  states : AreFirsts l.states is_numbered l.chart (take l.path-index l.paths);
   invokes : AreFirsts l.invokes (is_tag tag_name.Invoke) l.chart (take l.path-index l.paths);
   data_items : AreFirsts l.data_items (is_tag tag_name.DataItem) l.chart (take l.path-index l.paths);
 }

@@ -1,0 +1,25 @@
+//! What every crate of the host stands on: lists, queues, bytes and names as contracts see them, and the one way
+//! to say that memory is out.
+#![tactic(auto)]
+
+mod boxed;
+mod bytes;
+mod failure;
+mod memory;
+mod plain;
+mod queue;
+mod sequence;
+mod small_bytes;
+mod text;
+mod writer;
+
+pub use boxed::Boxed;
+pub use bytes::Bytes;
+pub use failure::Failure;
+pub use memory::NoMemory;
+pub use plain::Plain;
+pub use queue::Queue;
+pub use sequence::Sequence;
+pub use small_bytes::SmallBytes;
+pub use text::{Name, PlainName, Unfit, Word, is_plain_name, is_text, is_word};
+pub use writer::TextWriter;

@@ -1,0 +1,142 @@
+ghost use Rattle.std.specs.Prelude.{◌≡◌, [], IsTrue, ◌↔◌, IfOk};
+
+use crate::memory::NoMemory;
+use crate::plain::Plain;
+use std::alloc::{AllocError, Global};
+use std::marker::Model;
+use std::sync::Arc;
+
+/// Bytes with a count of owners.
+#[derive(Debug, Drop)]
+struct Counted {
+    bytes: Arc<Vec<u8>>,
+}
+
+impl Model for Counted {
+    ghost use Rattle.std.specs.Prelude.{List, ℕ};
+
+    ghost Value = { List ℕ };
+
+    ghost view = { λ c. c.bytes.value.items };
+}
+
+impl Clone for Counted {
+    ghost is_clone = { λ b copy. copy ≡ b };
+
+    fn clone(&self) -> Result<Self, AllocError> {
+        Ok(Counted {
+            bytes: Arc::try_clone(&self.bytes)?,
+        })
+    }
+}
+
+/// Bytes that never change, which contracts see as a list of numbers. Up to 23 of them lie in the value itself, and
+/// more of them have a count of owners, so that a copy allocates nothing.
+#[derive(Debug, Drop)]
+pub struct SmallBytes {
+    counted: Option<Counted>,
+    room: [u8; 23],
+    len: u8,
+}
+
+impl Model for SmallBytes {
+    ghost use Rattle.std.specs.Prelude.{List, ℕ, ◌≤◌};
+    ghost use Rattle.sc_base.specs.SmallBytes.{small_bytes};
+
+    ghost Value = { List ℕ };
+
+    ghost view = { small_bytes };
+
+    ghost invariant = { λ s. s.len ≤ 23 };
+}
+
+impl SmallBytes {
+    pub fn from_slice(alloc: Global, bytes: &[u8]) -> Result<SmallBytes, NoMemory>
+        ensures { IfOk result (λ s. s ≡ bytes.now) }
+    {
+        let mut room = [0u8; 23];
+        if bytes.len() <= 23 {
+            room[..bytes.len()].copy_from_slice(bytes);
+            return Ok(SmallBytes {
+                counted: None,
+                room,
+                len: bytes.len() as u8,
+            });
+        }
+        let bytes = Vec::from_slice(alloc, bytes)?;
+        let counted = Counted {
+            bytes: Arc::new(alloc, bytes)?,
+        };
+        Ok(SmallBytes {
+            counted: Some(counted),
+            room,
+            len: 0,
+        })
+    }
+
+    /// No bytes.
+    pub fn empty() -> SmallBytes
+        ensures { result ≡ [] }
+    {
+        SmallBytes {
+            counted: None,
+            room: [0u8; 23],
+            len: 0,
+        }
+    }
+
+    pub fn slice(&self) -> &[u8]
+        ensures { result.now ≡ self.now }
+    {
+        match &self.counted {
+            None => &self.room[..self.len as usize],
+            Some(counted) => counted.bytes.as_slice(),
+        }
+    }
+
+    pub fn is_empty(&self) -> bool
+        ensures { IsTrue result ↔ (self.now ≡ []) }
+    {
+        self.slice().is_empty()
+    }
+}
+
+impl Clone for SmallBytes {
+    ghost is_clone = { λ b copy. copy ≡ b };
+
+    fn clone(&self) -> Result<Self, AllocError> {
+        let counted = match &self.counted {
+            None => None,
+            Some(counted) => Some(counted.clone()?),
+        };
+        Ok(SmallBytes {
+            counted,
+            room: self.room,
+            len: self.len,
+        })
+    }
+}
+
+impl Plain for SmallBytes {
+    ghost clone_equals = { λ b copy e. e };
+}
+
+impl PartialEq for SmallBytes {
+    ghost use Rattle.std.specs.Prelude.{nat_eq};
+    ghost use Rattle.std.specs.Cmp.{partial_equiv_from_equiv};
+    ghost use Rattle.std.specs.Cmp.Lexicographic.{pointwise, nat_list_eq_equiv};
+
+    ghost eq = { pointwise nat_eq };
+
+    ghost laws = { partial_equiv_from_equiv nat_list_eq_equiv };
+
+    fn eq(&self, other: &SmallBytes) -> bool {
+        self.slice() == other.slice()
+    }
+}
+
+impl Eq for SmallBytes {
+    ghost use Rattle.std.specs.Cmp.Lexicographic.{nat_list_eq_equiv};
+
+    ghost laws = { nat_list_eq_equiv };
+}

@@ -1,0 +1,148 @@
+-- The elements of a chart in document order, their tags and their attributes. SCXML 3.1 to 6.5; that an element is named
+-- by its path, the places among child elements that lead to it from the root, is this host's own rule.
+use Rattle.std.specs.Prelude.{ℕ, ◌+◌, ◌-◌, ◌==◌, Bool, true, false, ◌&&◌, nat_eq, nat_lt, is_some, Option, Some, None, option_map, option_and_then, unwrap_or, List, [], ◌∷◌, ◌++◌, length, take, find, slice_get}
+use Rattle.std.specs.List.{list_any, starts_with}
+use Rattle.std.specs.Option.{option_map_or}
+use Rattle.std.specs.Str.{bytes_eq}
+use Rattle.sc_types.specs.Elements.{attribute_text}
+use Rattle.sc_types.specs.declared.attribute.Attribute.{Attribute}
+use Rattle.sc_types.specs.declared.chart.Chart.{Chart}
+use Rattle.sc_types.specs.declared.chart.Member.{Member}
+use Rattle.sc_types.specs.declared.chart.Member.TheVariants.{Plain, Items, Code}
+use Rattle.sc_types.specs.declared.chart.Node.{Node, Node', Row_of-Node, end_of-Node, more_of-Node, out-Node}
+use Rattle.sc_types.specs.declared.chart.Tag.{Tag}
+use Rattle.sc_types.specs.declared.chart.Tag.TheVariants as tag
+use Rattle.sc_types.specs.declared.expr.Expr.{Expr}
+
+-- paths
+
+abbrev pub Path : Type 0
+Path = List ℕ
+
+unfoldable mutual
+  -- the path of an element, and those of the elements below it
+  pub elements_from : Node → Path → List Path
+  elements_from (Node' tag members shape row) path = path ∷ elements_of_row row path 0
+
+  -- those of child elements, the first of which stands at this place
+  pub elements_of_row : {m : _} → Row_of-Node m → Path → ℕ → List Path
+  elements_of_row end_of-Node path place = []
+  elements_of_row (more_of-Node n rest) path place =
+      elements_from n (path ++ place ∷ []) ++ elements_of_row rest path (place + 1)
+
+-- the paths of all elements, in document order
+abbrev pub elements : Chart → List Path
+elements c = elements_from c.root []
+
+abbrev pub kids : Node → List Node
+kids n = (out-Node n).kids
+
+abbrev pub node_at : Node → Path → Option Node
+node_at n [] = Some n
+node_at n (place ∷ path) = option_and_then (λ kid. node_at kid path) (slice_get (kids n) place)
+
+-- the element at a path; the root where there is none
+abbrev pub element : Chart → Path → Node
+element c path = unwrap_or (node_at c.root path) c.root
+
+abbrev pub is_root : Path → Bool
+is_root path = length path == 0
+
+abbrev pub parent : Path → Path
+parent path = take (length path - 1) path
+
+-- a path leads on from another
+abbrev pub leads_on : Path → Path → Bool
+leads_on above path = nat_lt (length above) (length path) && starts_with nat_eq path above
+
+abbrev pub is_same : Path → Path → Bool
+is_same = bytes_eq
+
+-- tags
+
+abbrev pub tag_of : Node → Tag
+tag_of n = (out-Node n).tag
+
+abbrev pub is_tag : Tag → Tag → Bool
+is_tag tag.Scxml tag.Scxml = true
+is_tag tag.State tag.State = true
+is_tag tag.Parallel tag.Parallel = true
+is_tag tag.Final tag.Final = true
+is_tag tag.History tag.History = true
+is_tag tag.Initial tag.Initial = true
+is_tag tag.Transition tag.Transition = true
+is_tag tag.OnEntry tag.OnEntry = true
+is_tag tag.OnExit tag.OnExit = true
+is_tag tag.Finalize tag.Finalize = true
+is_tag tag.DataModel tag.DataModel = true
+is_tag tag.DataItem tag.DataItem = true
+is_tag tag.DoneData tag.DoneData = true
+is_tag tag.Content tag.Content = true
+is_tag tag.Param tag.Param = true
+is_tag tag.Invoke tag.Invoke = true
+is_tag tag.Raise tag.Raise = true
+is_tag tag.If tag.If = true
+is_tag tag.ElseIf tag.ElseIf = true
+is_tag tag.Else tag.Else = true
+is_tag tag.ForEach tag.ForEach = true
+is_tag tag.Log tag.Log = true
+is_tag tag.Assign tag.Assign = true
+is_tag tag.Send tag.Send = true
+is_tag tag.Cancel tag.Cancel = true
+is_tag s t = false
+
+-- attributes: of a list of attributes, and of an element
+
+abbrev pub Members : Type 0
+Members = List (List ℕ × Member)
+
+abbrev pub members_of : Node → Members
+members_of n = (out-Node n).members
+
+abbrev pub member_in : List ℕ → Members → Option Member
+member_in name ms =
+    option_map (λ (m : List ℕ × Member). m.1) (find (λ (m : List ℕ × Member). bytes_eq m.0 name) ms)
+
+abbrev pub member : List ℕ → Node → Option Member
+member name n = member_in name (members_of n)
+
+abbrev pub given : Attribute → Node → Option Member
+given a n = member (attribute_text a) n
+
+abbrev pub has : Attribute → Node → Bool
+has a n = is_some (given a n)
+
+-- the text, the words or the expression of an attribute of that form
+
+abbrev pub plain_text : Member → Option (List ℕ)
+plain_text (Plain text) = Some text
+plain_text m = None
+
+abbrev pub words_of : Member → List (List ℕ)
+words_of (Items words) = words
+words_of m = []
+
+abbrev pub code_of : Member → Option Expr
+code_of (Code code) = Some code
+code_of m = None
+
+abbrev pub text_in : Attribute → Members → Option (List ℕ)
+text_in a ms = option_and_then plain_text (member_in (attribute_text a) ms)
+
+abbrev pub words_in : Attribute → Members → List (List ℕ)
+words_in a ms = option_map_or words_of (member_in (attribute_text a) ms) []
+
+abbrev pub code_in : Attribute → Members → Option Expr
+code_in a ms = option_and_then code_of (member_in (attribute_text a) ms)
+
+abbrev pub text_at : Attribute → Node → Option (List ℕ)
+text_at a n = text_in a (members_of n)
+
+abbrev pub words_at : Attribute → Node → List (List ℕ)
+words_at a n = words_in a (members_of n)
+
+abbrev pub code_at : Attribute → Node → Option Expr
+code_at a n = code_in a (members_of n)
+
+abbrev pub is_text_at : Attribute → List ℕ → Node → Bool
+is_text_at a text n = option_map_or (λ own. bytes_eq own text) (text_at a n) false

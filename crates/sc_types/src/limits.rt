@@ -1,0 +1,35 @@
+/// The most bytes that the text of a chart may have.
+pub const CHART_TEXT_LIMIT: usize = 1_048_576;
+
+/// The most levels of elements that a chart may have, of which the root is one.
+pub const LEVEL_LIMIT: usize = 40;
+
+/// The most states and histories that a chart may have.
+pub const STATE_LIMIT: u32 = 4_096;
+
+/// The most bytes of an id.
+pub const ID_LIMIT: usize = 128;
+
+/// The most bytes of an event's name.
+pub const EVENT_NAME_LIMIT: usize = 256;
+
+/// The most bytes of the name of a chart or of a session, as the host takes them.
+pub const NAME_LIMIT: usize = 64;
+
+/// The most bytes of the `target` of a `<send>`.
+pub const SEND_TARGET_LIMIT: usize = 512;
+
+/// The most bytes of the `type` of a `<send>` or an `<invoke>`.
+pub const TYPE_NAME_LIMIT: usize = 256;
+
+/// The most rounds that a chart's `limit` may give a turn.
+pub const ROUND_LIMIT: u32 = 10_000;
+
+/// The rounds of a turn of a chart without `limit`.
+pub const DEFAULT_ROUNDS: u32 = 1_000;
+
+/// The most items of a list.
+pub const ITEM_LIMIT: usize = 256;
+
+/// The longest delay, in milliseconds.
+pub const DELAY_LIMIT: u64 = 1_000_000_000_000;

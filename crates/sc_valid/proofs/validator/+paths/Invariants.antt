@@ -1,9 +1,0 @@
-use Rattle.std.proofs.Common.{◌≡◌, ◌++◌, drop, map}
-use Rattle.sc_law.specs.Tree.{paths_of_kids}
-use Rattle.sc_law.specs.Legality.{elements_from}
-use Rattle.sc_valid.proofs.validator.+paths.Given as goal
-
-abbrev pub invariant-loop-place : goal.invariant-loop-place
-invariant-loop-place l =
-    l.out ++ paths_of_kids l.path l.place (map elements_from (drop l.place l.kid-items))
-    ≡ l.initial.out ++ paths_of_kids l.path 0 (map elements_from l.kid-items)
