@@ -1,6 +1,6 @@
 -- Which states of a session fit a chart, and which cues they wait for. This host's own rule, for the sets and lists of
 -- SCXML Appendix D.
-use Rattle.std.specs.Prelude.{All, Bool, IsTrue, List, None, Option, [], length, map, nat_lt, not, true, ℕ, ◌&&◌, ◌<◌, ◌==◌, ◌∷◌, ◌≡◌}
+use Rattle.std.specs.Prelude.{All, Bool, IsTrue, List, Option, [], length, map, nat_lt, not, true, ℕ, ◌&&◌, ◌<◌, ◌==◌, ◌∷◌, ◌≡◌}
 use Rattle.std.specs.List.{IsDistinct, list_all, list_any}
 use Rattle.std.specs.Str.{bytes_eq}
 use Rattle.sc_base.specs.Ascending.{contains}
@@ -16,9 +16,9 @@ use Rattle.sc_law.specs.Nodes.{element}
 use Rattle.sc_law.specs.Tree.{state_count}
 use Rattle.sc_law.specs.Configurations.{IsConfiguration, parent_of}
 use Rattle.sc_law.specs.Records.{records}
+use Rattle.sc_law.specs.Runs.{fresh_state}
 use Rattle.sc_law.specs.Evaluation.{is_pair_named}
 use Rattle.sc_law.specs.Data.{data_paths, own_id}
-use Rattle.sc_law.specs.Sending.{PairsOf}
 use Rattle.sc_law.specs.Invokes.{invokes_of}
 use Rattle.sc_law.specs.Kinds.{is_history}
 
@@ -66,24 +66,6 @@ pub record FitsRunning (c : Chart) (s : SessionState) : Type 0 where
   pub no_invoke_twice : IsDistinct is_same_element s.invokes
   pub no_name_twice : IsDistinct bytes_eq (map (λ (pair : List ℕ × Option Value). pair.0) s.values)
   pub declared : IsTrue (list_all (has_datum s.values) (data_elements c))
-
--- a session that was not stepped yet
-abbrev pub fresh_state : List ℕ → List ℕ → PairsOf → SessionState
-fresh_state session chart params = record {
-  session = session;
-  chart = chart;
-  phase = phase.Fresh;
-  configuration = [];
-  values = [];
-  entered = [];
-  histories = [];
-  internal = [];
-  invokes = [];
-  bound = None;
-  params = params;
-  sends = 0;
-  born = 0;
-}
 
 -- a session that fits a chart: it was not stepped yet, or it runs
 pub data Fits (c : Chart) (s : SessionState) : Type 0 where

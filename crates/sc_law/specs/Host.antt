@@ -12,8 +12,6 @@ use Rattle.sc_types.specs.declared.command.Refusal.{Refusal}
 use Rattle.sc_types.specs.declared.command.Refusal.TheVariants as refusal
 use Rattle.sc_types.specs.declared.command.Reply.{Reply}
 use Rattle.sc_types.specs.declared.command.Reply.TheVariants.{Installed, Started, Posted, Stepped, Refused}
-use Rattle.sc_types.specs.declared.event.Data.{Data}
-use Rattle.sc_types.specs.declared.event.Data.TheVariants.{Absent, Pairs}
 use Rattle.sc_types.specs.declared.event.Event.{Event}
 use Rattle.sc_types.specs.declared.event.Kind.TheVariants as kind
 use Rattle.sc_types.specs.declared.history.Delivery.{Delivery}
@@ -27,10 +25,10 @@ use Rattle.sc_types.specs.declared.session.CueName.{CueName}
 use Rattle.sc_types.specs.declared.session.CueName.TheVariants as cue_name
 use Rattle.sc_types.specs.declared.session.Phase.{Phase}
 use Rattle.sc_types.specs.declared.session.Phase.TheVariants as phase
-use Rattle.sc_types.specs.declared.session.SessionState.{SessionState}
 use Rattle.sc_types.specs.declared.value.Value.{Value}
 use Rattle.sc_law.specs.declared.flat.run_state.TurnResult.{TurnResult}
 use Rattle.sc_law.specs.FlatCharts.{flat_chart_of}
+use Rattle.sc_law.specs.Runs.{fresh_state, pairs_data}
 use Rattle.sc_law.specs.Flat.Turn.{turn}
 
 -- what the host answers: itself after the command, the reply, what was logged, and what became of each effect
@@ -108,25 +106,8 @@ install g name text =
 
 -- start
 
-abbrev pub fresh_state : List ℕ → List ℕ → SessionState
-fresh_state session chart = record {
-  session = session;
-  chart = chart;
-  phase = phase.Fresh;
-  configuration = [];
-  values = [];
-  entered = [];
-  histories = [];
-  internal = [];
-  invokes = [];
-  bound = None;
-  params = [];
-  sends = 0;
-  born = 0;
-}
-
 abbrev pub fresh_session : List ℕ → List ℕ → SessionImage
-fresh_session session chart = record { state = fresh_state session chart; queued = []; flagged = false; invoker = None; depth = 1 }
+fresh_session session chart = record { state = fresh_state session chart []; queued = []; flagged = false; invoker = None; depth = 1 }
 
 abbrev pub has_slash : List ℕ → Bool
 has_slash name = list_any (λ b. b == 47) name
@@ -141,10 +122,6 @@ start g session chart =
     else accepted (record g { sessions = g.sessions ++ fresh_session session chart ∷ [] }) Started []))))
 
 -- post
-
-abbrev pub pairs_data : List (List ℕ × Value) → Data
-pairs_data [] = Absent
-pairs_data (p ∷ ps) = Pairs (p ∷ ps)
 
 abbrev pub posted_event : ℕ → List ℕ → List (List ℕ × Value) → Event
 posted_event number name pairs = record {

@@ -79,7 +79,7 @@ abbrev pub finalized : Node → Event → Invoked → Running → Running
 finalized n e i r =
     (if bytes_eq i.invokeid e.invokeid then run_blocks (with_tag tag.Finalize (kids n)) else (λ same. same)) r
 
--- 6.4.1, `autoforward`: the event that was received is handed on
+-- 6.4.1, `autoforward`: the event is handed on as it was received, its number included
 abbrev pub forwarded : Node → Event → Invoked → Running → Running
 forwarded n e i r = if is_text_at attribute.AutoForward (codes "true") n then with_effect (Forward i.child e) r else r
 

@@ -5,11 +5,13 @@ use Rattle.std.specs.List.{range_with_len}
 use Rattle.sc_types.specs.declared.chart.Chart.{Chart}
 use Rattle.sc_types.specs.declared.effect.Effect.{Effect}
 use Rattle.sc_types.specs.declared.event.Data.{Data}
-use Rattle.sc_types.specs.declared.event.Data.TheVariants.{Absent}
+use Rattle.sc_types.specs.declared.event.Data.TheVariants.{Absent, Pairs}
 use Rattle.sc_types.specs.declared.event.Event.{Event}
 use Rattle.sc_types.specs.declared.event.Kind.TheVariants.{Platform}
 use Rattle.sc_types.specs.declared.history.LogLine.{LogLine}
 use Rattle.sc_types.specs.declared.session.Invoked.{Invoked}
+use Rattle.sc_types.specs.declared.session.Phase.TheVariants as phase
+use Rattle.sc_types.specs.declared.session.SessionState.{SessionState}
 use Rattle.sc_types.specs.declared.value.Value.{Value}
 use Rattle.sc_law.specs.Tree.{id_of, state_count, state_element}
 use Rattle.sc_law.specs.Sets.{Histories}
@@ -76,6 +78,11 @@ platform_event name sendid payload = record {
 abbrev pub failed : List ℕ → Running → Running
 failed sendid r = enqueue (platform_event (codes "error.execution") sendid Absent) r
 
+-- no pairs are no data (this host's own rule)
+abbrev pub pairs_data : List (List ℕ × Value) → Data
+pairs_data [] = Absent
+pairs_data (pair ∷ pairs) = Pairs (pair ∷ pairs)
+
 -- 3.14: a state without `id` has the id `#K`, K its number; histories count in the numbers (this host's own rule)
 abbrev pub state_id : Chart → ℕ → List ℕ
 state_id c s = unwrap_or (id_of (state_element c s)) (codes "#" ++ decimal s)
@@ -86,3 +93,21 @@ id_row c s = if is_history c s then None else Some (state_id c s, s)
 -- the ids that `In` knows, those that are made too; a history has none (this host's own rule)
 abbrev pub ids : Chart → List (List ℕ × ℕ)
 ids c = filter_map (id_row c) (range_with_len 0 (state_count c))
+
+-- a session that was not stepped yet, with what it is started with
+abbrev pub fresh_state : List ℕ → List ℕ → List (List ℕ × Value) → SessionState
+fresh_state session chart params = record {
+  session = session;
+  chart = chart;
+  phase = phase.Fresh;
+  configuration = [];
+  values = [];
+  entered = [];
+  histories = [];
+  internal = [];
+  invokes = [];
+  bound = None;
+  params = params;
+  sends = 0;
+  born = 0;
+}

@@ -15,7 +15,7 @@ use Rattle.sc_types.specs.declared.chart.Tag.{Tag}
 use Rattle.sc_types.specs.declared.chart.Tag.TheVariants as tag
 use Rattle.sc_types.specs.declared.effect.Effect.TheVariants.{Send}
 use Rattle.sc_types.specs.declared.event.Data.{Data}
-use Rattle.sc_types.specs.declared.event.Data.TheVariants.{Absent, One, Pairs}
+use Rattle.sc_types.specs.declared.event.Data.TheVariants.{One}
 use Rattle.sc_types.specs.declared.event.Kind.TheVariants.{Internal, External}
 use Rattle.sc_types.specs.declared.host.To.{To}
 use Rattle.sc_types.specs.declared.host.To.TheVariants as to
@@ -25,7 +25,7 @@ use Rattle.sc_types.specs.declared.value.Value.TheOpen.{Value-F}
 use Rattle.sc_types.specs.declared.value.Value.TheVariants.{Text}
 use Rattle.sc_types.specs.Attributes.{Members, code_in, text_in, words_in, members_of}
 use Rattle.sc_law.specs.Nodes.{kids, tag_of, is_tag}
-use Rattle.sc_law.specs.Runs.{Env, Running, enqueue, failed, with_effect}
+use Rattle.sc_law.specs.Runs.{Env, Running, enqueue, failed, with_effect, pairs_data}
 use Rattle.sc_law.specs.Evaluation.{Evaluated, datum, text_of, value}
 use Rattle.sc_law.specs.Data.{set}
 use Rattle.sc_law.specs.Outcomes.{Outcome, done, stopped_at}
@@ -76,10 +76,6 @@ content_data (Err fault) r = (One (Text []), failed [] r)
 abbrev pub content_of : Members → Running → Data × Running
 content_of m r = option_map_or (λ e. content_data (value e r.env) r) (code_in attribute.Expr m) (One (Text []), r)
 
-abbrev pub pairs_data : PairsOf → Data
-pairs_data [] = Absent
-pairs_data (pair ∷ pairs) = Pairs (pair ∷ pairs)
-
 abbrev pub data_with : List Members → PairsOf → PairsOf × Running → Data × Running
 data_with [] named_pairs got = (pairs_data (named_pairs ++ got.0), got.1)
 data_with (m ∷ ms) named_pairs got = content_of m got.1
@@ -107,7 +103,7 @@ child_named id invokes = option_map_or (λ (i : Invoked). to.Child i.child)
     (first_invoke (filter (λ (i : Invoked). bytes_eq i.invokeid id) invokes)) to.Nowhere
 
 abbrev pub begins_with : List ℕ → List ℕ → Bool
-begins_with front text = starts_with nat_eq text front
+begins_with first text = starts_with nat_eq text first
 
 -- C.1: the first of these forms that fits. `#_scxml_` with no word behind it is an id like any other; `#_` alone and
 -- the empty target are of no form, and a fault.

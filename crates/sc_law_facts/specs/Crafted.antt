@@ -13,7 +13,7 @@ use Rattle.sc_types.specs.declared.session.Cue.TheVariants.{Fresh, Resume, Cance
 use Rattle.sc_types.specs.declared.session.How.TheVariants as how
 use Rattle.sc_types.specs.declared.session.Phase.TheVariants as phase
 use Rattle.sc_types.specs.declared.value.Value.TheVariants as value
-use Rattle.sc_law.specs.Fitting.{fresh_state}
+use Rattle.sc_law.specs.Runs.{fresh_state}
 use Rattle.sc_law_facts.specs.Stories.{Story, built, plain, items, code, event_of}
 
 -- An order that times out after it was paid, and goes on from where it stood.

@@ -10,7 +10,7 @@ use Rattle.sc_types.specs.declared.session.Cue.TheVariants.{Fresh, Cancel, Exter
 use Rattle.sc_types.specs.declared.session.How.TheVariants as how
 use Rattle.sc_types.specs.declared.session.Phase.TheVariants as phase
 use Rattle.sc_types.specs.declared.value.Value.TheVariants as value
-use Rattle.sc_law.specs.Fitting.{fresh_state}
+use Rattle.sc_law.specs.Runs.{fresh_state}
 use Rattle.sc_law_facts.specs.Stories.{Story, built, plain, items, code, event_of}
 
 abbrev pub chart_1 : Story

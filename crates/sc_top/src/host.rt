@@ -1,6 +1,7 @@
 ghost use Rattle.std.specs.Prelude.{◌≡◌, ◌+◌, ◌^◌, ◌<◌, [], Some, option_map, is_some, find, unwrap_or, slice_get, IfSome, IfOk, OnOk, length};
 ghost use Rattle.std.specs.Option.{option_copied};
-ghost use Rattle.sc_law.specs.Host.{empty_host, has_chart, chart_place, chart_named, bare_chart, session_place, session_named, not_read, fresh_state, fresh_session, has_slash, pairs_data, posted_event, waiting_cue, cue_of, name_of, queue_left, queue_of_phase, ready};
+ghost use Rattle.sc_law.specs.Host.{empty_host, has_chart, chart_place, chart_named, bare_chart, session_place, session_named, not_read, fresh_session, has_slash, posted_event, waiting_cue, cue_of, name_of, queue_left, queue_of_phase, ready};
+ghost use Rattle.sc_law.specs.Runs.{fresh_state, pairs_data};
 ghost use Rattle.sc_law.specs.Flat.Turn.{turn};
 
 use crate::flat::read_flat_chart;
@@ -375,7 +376,7 @@ fn has_slash(name: &[u8]) -> bool
 }
 
 fn fresh_state(alloc: Global, session: &Word, chart: &Word) -> Result<SessionState, NoMemory>
-    ensures { IfOk result (λ s. s ≡ fresh_state session.now chart.now) }
+    ensures { IfOk result (λ s. s ≡ fresh_state session.now chart.now []) }
 {
     Ok(SessionState {
         session: session.copy()?,

@@ -6,7 +6,7 @@ pub returns-clause-session : goal.returns-clause-session
 returns-clause-session c chart s cue = ap (λ k. k.0) (turn_keeps chart s cue)
 
 pub returns-clause-chart : goal.returns-clause-chart
-returns-clause-chart c chart s cue = ap (λ k. k.1.0) (turn_keeps chart s cue)
+returns-clause-chart c chart s cue = ap (λ k. k.1) (turn_keeps chart s cue)
 
 pub returns-clause-params : goal.returns-clause-params
-returns-clause-params c chart s cue = ap (λ k. k.1.1) (turn_keeps chart s cue)
+returns-clause-params c chart s cue = ap (λ k. k.2) (turn_keeps chart s cue)
