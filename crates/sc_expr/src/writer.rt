@@ -68,7 +68,8 @@ fn put_around(
 
 #[cycle(print)]
 fn put_list(alloc: Global, out: &mut Vec<u8>, items: &[Expr]) -> Result<(), NoMemory>
-    ensures { OnOk result (out.new.items ≡ out.old.items ++ (codes "[" ++ joined (map expr_text items.now) ++ codes "]")) }
+    ensures { OnOk result (out.new.items
+        ≡ out.old.items ++ (codes "[" ++ joined (map expr_text items.now) ++ codes "]")) }
 {
     put(out, b"[")?;
     for i in 0..items.len() {
