@@ -25,9 +25,11 @@ bound_if : (n : ℕ) (d : Bool) → (d ≡ true → n < 10 ^ 13) → IfSome (if 
 bound_if n true s = s refl
 bound_if n false s = tt
 
+-- at most 13 digits are a number of 64 bits
 pub short_digits : (text : List ℕ) → 0 < length text → length text ≤ 13 → digits_number text ≡ short_number text
 short_digits text h k = short_if (length text) (digits_value 10 text) (are_digits text) h (short_value text k)
 
+-- a number of at most 13 digits is below 10^13
 pub short_bound : (text : List ℕ) (o : Option ℕ) → o ≡ short_number text → length text ≤ 13 → IfSome o (λ n. n < 10 ^ 13)
 short_bound text o e k =
     let P : Option ℕ → Type 0 = λ o. IfSome o (λ n. n < 10 ^ 13) in
@@ -39,6 +41,7 @@ digits_if : (b : ℕ) (rest : List ℕ) (v : Bool) → is_digit b ≡ v → are_
 digits_if b rest true e h = all_true (is_digit b) (are_digits rest) e h
 digits_if b rest false e h = refl
 
+-- what stands before the first byte that is no digit is digits
 pub digits_front : (text : List ℕ) → are_digits (take_while is_digit text) ≡ true
 digits_front [] = refl
 digits_front (b ∷ rest) = ap are_digits (take_while-cons is_digit b rest) ∙ digits_if b (take_while is_digit rest) (is_digit b) refl (digits_front rest)

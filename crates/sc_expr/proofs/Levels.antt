@@ -19,15 +19,18 @@ use Rattle.sc_expr.proofs.Loops.{chained_from_op, chained_from_other, at_square,
 
 -- levels
 
+-- at looseness 0 there are neither operators nor prefixes
 pub loose_none : (room bound : ℕ) (ts : List Token) → bound ≡ 0 → loose_at room bound ts ≡ postfix (nat_lt 0 room) (inside room) ts
 unfolding loose
 loose_none room bound ts e = ap (λ b. loose_at room b ts) e
 
+-- at looseness 1 there are prefixes, and no operators
 pub loose_prefixed : (room bound : ℕ) (ts : List Token) → bound ≡ 1
     → loose_at room bound ts ≡ prefixed (postfix (nat_lt 0 room) (inside room)) ts
 unfolding loose
 loose_prefixed room bound ts e = ap (λ b. loose_at room b ts) e
 
+-- from looseness 2 on, an operand is followed by operators of this looseness
 pub loose_more : (room bound : ℕ) (ts : List Token) → 2 ≤ bound
     → loose_at room bound ts ≡ option_and_then (λ (r : Expr × List Token). chained_from (loose_at room (bound - 1)) bound r.0 r.1) (loose_at room (bound - 1) ts)
 unfolding loose
@@ -37,10 +40,12 @@ loose_more room (suc (suc k)) ts h =
     let k' : suc k ≡ suc (suc k) - 1 = omega arith in
     ap (λ n. option_and_then {T = Expr × List Token} (λ r. chained_from (loose_at room n) (suc (suc k)) r.0 r.1) (loose_at room n ts)) k'
 
+-- where no more brackets may be opened, nothing is read in them
 pub inside_none : (room : ℕ) (ts : List Token) → room ≡ 0 → inside room ts ≡ None
 unfolding inside
 inside_none room ts e = ap (λ r. inside r ts) e
 
+-- in brackets stands any expression, with one bracket fewer that may be opened
 pub inside_more : (room : ℕ) (ts : List Token) → 0 < room → inside room ts ≡ loose_at (room - 1) 6 ts
 unfolding inside
 inside_more zero ts h = absurd (omega arith)
@@ -75,6 +80,7 @@ pub loose_result : (room bound : ℕ) (ts rest now : List Token) (first left : E
 loose_result room bound ts rest now first left o two begun kept found =
     loose_more room bound ts two ∙ ap (option_and_then _) begun ∙ sym kept ∙ found
 
+-- where no operator of this looseness comes, the expression ends
 pub chain_stops : (operand : Parse Expr) (bound : ℕ) (a : Expr) (ts : List Token) → depth a ≤ 256 → operator_at bound ts ≡ None
     → chained_from operand bound a ts ≡ Some (a, ts)
 chain_stops operand bound a (Operator op ∷ ts) shallow none =
@@ -98,6 +104,7 @@ chain_goes operand bound a op (Operator op' ∷ us) shallow some =
 chain_goes operand bound a op [] shallow some = absurd (none-some op some)
 chain_goes operand bound a op (t ∷ us) shallow some = absurd (none-some op some)
 
+-- behind an operator whose operand is not read, nothing is read
 pub chain_refused : (operand : Parse Expr) (bound : ℕ) (a : Expr) (op : Op) (ts : List Token) → depth a ≤ 256
     → operator_at bound ts ≡ Some op → operand (drop 1 ts) ≡ None → chained_from operand bound a ts ≡ None
 chain_refused operand bound a op ts shallow some none =
@@ -110,30 +117,35 @@ chain_made : (operand : Parse Expr) (bound : ℕ) (a b : Expr) (op : Op) (ts res
 chain_made operand bound a b op ts rest shallow some read =
     chain_goes operand bound a op ts shallow some ∙ ap (option_and_then _) read
 
+-- an operator that makes the expression too deep is refused
 pub chain_too_deep : (operand : Parse Expr) (bound : ℕ) (a b : Expr) (op : Op) (ts rest : List Token) → depth a ≤ 256
     → operator_at bound ts ≡ Some op → operand (drop 1 ts) ≡ Some (b, rest) → within (Two op a b) ≡ None
     → chained_from operand bound a ts ≡ None
 chain_too_deep operand bound a b op ts rest shallow some read deep =
     chain_made operand bound a b op ts rest shallow some read ∙ ap (option_and_then _) deep
 
+-- behind an operator that repeats, the chain goes on
 pub chain_step : (operand : Parse Expr) (bound : ℕ) (a b e : Expr) (op : Op) (ts rest : List Token) → depth a ≤ 256
     → operator_at bound ts ≡ Some op → operand (drop 1 ts) ≡ Some (b, rest) → within (Two op a b) ≡ Some e → repeats op ≡ true
     → chained_from operand bound a ts ≡ chained_from operand bound e rest
 chain_step operand bound a b e op ts rest shallow some read fits more =
     chain_made operand bound a b op ts rest shallow some read ∙ ap (option_and_then _) fits ∙ cond-true (repeats op) _ _ more
 
+-- behind an operator that does not repeat, the chain ends
 pub chain_last : (operand : Parse Expr) (bound : ℕ) (a b e : Expr) (op : Op) (ts rest : List Token) → depth a ≤ 256
     → operator_at bound ts ≡ Some op → operand (drop 1 ts) ≡ Some (b, rest) → within (Two op a b) ≡ Some e → repeats op ≡ false
     → chained_from operand bound a ts ≡ Some (e, rest)
 chain_last operand bound a b e op ts rest shallow some read fits last =
     chain_made operand bound a b op ts rest shallow some read ∙ ap (option_and_then _) fits ∙ cond-false (repeats op) _ _ last
 
+-- an operator that comes next takes a token
 pub operator_there : (bound : ℕ) (op : Op) (ts : List Token) → operator_at bound ts ≡ Some op → length (drop 1 ts) < length ts
 operator_there bound op [] some = absurd (none-some op some)
 operator_there bound op (t ∷ ts) some = omega arith
 
 -- prefixes
 
+-- where no prefix comes, the operand does
 pub prefix_stops : (operand : Parse Expr) (ts : List Token) → prefix_at ts ≡ None → prefixed operand ts ≡ operand ts
 unfolding prefixed
 prefix_stops operand (Sign Bang ∷ ts) none = absurd (none-some prefix.Not (sym none))
@@ -154,15 +166,18 @@ all_prefixed-push : (ps : List Prefix) (p : Prefix) (r : Option (Expr × List To
 all_prefixed-push [] p r = refl
 all_prefixed-push (q ∷ ps) p r = ap (option_and_then (made (prefix_of q))) (all_prefixed-push ps p r)
 
+-- prefixes before nothing are nothing
 pub all_prefixed-none : (ps : List Prefix) → all_prefixed ps None ≡ None
 all_prefixed-none [] = refl
 all_prefixed-none (p ∷ ps) = ap (option_and_then (made (prefix_of p))) (all_prefixed-none ps)
 
+-- one prefix more is passed over
 pub prefix_step : (operand : Parse Expr) (ps : List Prefix) (p : Prefix) (ts : List Token) → prefix_at ts ≡ Some p
     → all_prefixed (ps ++ p ∷ []) (prefixed operand (drop 1 ts)) ≡ all_prefixed ps (prefixed operand ts)
 prefix_step operand ps p ts some =
     all_prefixed-push ps p (prefixed operand (drop 1 ts)) ∙ ap (all_prefixed ps) (sym (prefix_goes operand p ts some))
 
+-- a prefix that comes next takes a token
 pub prefix_there : (p : Prefix) (ts : List Token) → prefix_at ts ≡ Some p → length (drop 1 ts) < length ts
 prefix_there p [] some = absurd (none-some p some)
 prefix_there p (t ∷ ts) some = omega arith
@@ -173,6 +188,7 @@ pub prefix_made : (ps : List Prefix) (p : Prefix) (a e : Expr) (ts : List Token)
 prefix_made ps p a e ts fits =
     all_prefixed-push ps p (Some (a, ts)) ∙ ap (λ o. all_prefixed ps (option_map (with_rest ts) o)) fits
 
+-- a prefix that makes the expression too deep is refused
 pub prefix_too_deep : (ps : List Prefix) (p : Prefix) (a : Expr) (ts : List Token) → within (prefix_of p a) ≡ None
     → all_prefixed (ps ++ p ∷ []) (Some (a, ts)) ≡ None
 prefix_too_deep ps p a ts deep =
@@ -180,6 +196,7 @@ prefix_too_deep ps p a ts deep =
 
 -- places in a list
 
+-- where no `[` comes, the expression ends
 pub index_stops : (inner : Parse Expr) (a : Expr) (ts : List Token) → depth a ≤ 256 → is_at OpenSquare ts ≡ false
     → indexed_from inner a ts ≡ Some (a, ts)
 index_stops inner a (Sign OpenSquare ∷ ts) shallow there = absurd (true_is_false there)
@@ -192,6 +209,7 @@ index_goes inner a (Sign OpenSquare ∷ us) shallow there = indexed_from_square 
 index_goes inner a [] shallow there = absurd (true_is_false (sym there))
 index_goes inner a (t ∷ us) shallow there = absurd (true_is_false (sym there))
 
+-- behind a `[` whose place is not read, nothing is read
 pub index_refused : (inner : Parse Expr) (a : Expr) (ts : List Token) → depth a ≤ 256 → is_at OpenSquare ts ≡ true
     → inner (drop 1 ts) ≡ None → indexed_from inner a ts ≡ None
 index_refused inner a ts shallow there none = index_goes inner a ts shallow there ∙ ap (option_and_then _) none
@@ -202,26 +220,31 @@ index_made : (inner : Parse Expr) (a b : Expr) (ts rest : List Token) → depth 
     → indexed_from inner a ts ≡ option_and_then (λ us. option_and_then (λ e. indexed_from inner e us) (within (Item a b))) (after_close_square rest)
 index_made inner a b ts rest shallow there read = index_goes inner a ts shallow there ∙ ap (option_and_then _) read
 
+-- a place without its `]` is refused
 pub index_unclosed : (inner : Parse Expr) (a b : Expr) (ts rest : List Token) → depth a ≤ 256 → is_at OpenSquare ts ≡ true
     → inner (drop 1 ts) ≡ Some (b, rest) → after_close_square rest ≡ None → indexed_from inner a ts ≡ None
 index_unclosed inner a b ts rest shallow there read unclosed = index_made inner a b ts rest shallow there read ∙ ap (option_and_then _) unclosed
 
+-- a place that makes the expression too deep is refused
 pub index_too_deep : (inner : Parse Expr) (a b : Expr) (ts rest us : List Token) → depth a ≤ 256 → is_at OpenSquare ts ≡ true
     → inner (drop 1 ts) ≡ Some (b, rest) → after_close_square rest ≡ Some us → within (Item a b) ≡ None → indexed_from inner a ts ≡ None
 index_too_deep inner a b ts rest us shallow there read shut deep =
     index_made inner a b ts rest shallow there read ∙ ap (option_and_then _) shut ∙ ap (option_and_then _) deep
 
+-- behind a place and its `]`, more places may follow
 pub index_step : (inner : Parse Expr) (a b e : Expr) (ts rest us : List Token) → depth a ≤ 256 → is_at OpenSquare ts ≡ true
     → inner (drop 1 ts) ≡ Some (b, rest) → after_close_square rest ≡ Some us → within (Item a b) ≡ Some e
     → indexed_from inner a ts ≡ indexed_from inner e us
 index_step inner a b e ts rest us shallow there read shut fits =
     index_made inner a b ts rest shallow there read ∙ ap (option_and_then _) shut ∙ ap (option_and_then _) fits
 
+-- what the loop over the places finds is what the level gives
 pub postfix_result : (has_room : Bool) (inner : Parse Expr) (ts rest now : List Token) (first a : Expr) (o : Option (Expr × List Token))
     → primary has_room inner ts ≡ Some (first, rest) → indexed_from inner a now ≡ indexed_from inner first rest
     → indexed_from inner a now ≡ o → postfix has_room inner ts ≡ o
 postfix_result has_room inner ts rest now first a o begun kept found = ap (option_and_then _) begun ∙ sym kept ∙ found
 
+-- a mark that comes next takes a token
 pub mark_there : (m : Mark) (ts : List Token) → is_at m ts ≡ true → length (drop 1 ts) < length ts
 mark_there m [] there = absurd (true_is_false (sym there))
 mark_there m (t ∷ ts) there = omega arith
@@ -232,6 +255,7 @@ mark_there m (t ∷ ts) there = omega arith
 abbrev pub in_front : List Expr → Option (List Expr × List Token) → Option (List Expr × List Token)
 in_front es r = option_map (λ (r : List Expr × List Token). (es ++ r.0, r.1)) r
 
+-- no items in front change nothing
 pub in_front-none : (r : Option (List Expr × List Token)) → in_front [] r ≡ r
 in_front-none None = refl
 in_front-none (Some r) = refl
@@ -240,6 +264,7 @@ in_front-push : (es : List Expr) (e : Expr) (r : Option (List Expr × List Token
 in_front-push es e None = refl
 in_front-push es e (Some r) = ap (λ items. Some (items, r.1)) (sym (append_assoc es (e ∷ []) r.0))
 
+-- the deepest of the items and one more is the deeper of both
 pub deepest-push : (es : List Expr) (e : Expr) → deepest (map depth (es ++ e ∷ [])) ≡ max (depth e) (deepest (map depth es))
 deepest-push [] e = refl
 deepest-push (x ∷ es) e = ap (max (depth x)) (deepest-push es e) ∙ max-swap (depth x) (depth e) (deepest (map depth es))
@@ -290,11 +315,13 @@ Keeps room start es ts =
     (in_front es (items (inside room) (length start - length es) ts) ≡ items (inside room) (length start) start)
     × (length ts + length es ≤ length start)
 
+-- a list with an item that is not read is refused
 pub list_refused : (room : ℕ) (start ts : List Token) (es : List Expr) → 0 < room → is_at CloseSquare start ≡ false
     → Keeps room start es ts → inside room ts ≡ None → list_of (nat_lt 0 room) (inside room) start ≡ None
 list_refused room start ts es free first kept none =
     list_begins room start free first ∙ ap listed (sym kept.0 ∙ ap (in_front es) (items_refused (inside room) _ ts none))
 
+-- a list with neither a comma nor a `]` behind an item is refused
 pub list_unended : (room : ℕ) (start ts us : List Token) (es : List Expr) (e : Expr) → 0 < room → is_at CloseSquare start ≡ false
     → Keeps room start es ts → inside room ts ≡ Some (e, us) → is_unended us ≡ true → list_of (nat_lt 0 room) (inside room) start ≡ None
 list_unended room start ts us es e free first kept read bare =
@@ -310,12 +337,14 @@ list_ends room start ts us rest es all e free first kept read close push =
     ∙ ap (option_and_then _) read ∙ ap (item_end _ e) close))
     ∙ ap (λ es. option_map (with_rest rest) (within (Listed es))) (sym push)
 
+-- a list whose last item is followed by `]` is read
 pub list_made : (room : ℕ) (start ts us rest : List Token) (es all : List Expr) (e made : Expr) → 0 < room → is_at CloseSquare start ≡ false
     → Keeps room start es ts → inside room ts ≡ Some (e, us) → us ≡ Sign CloseSquare ∷ rest → all ≡ es ++ e ∷ []
     → within (Listed all) ≡ Some made → list_of (nat_lt 0 room) (inside room) start ≡ Some (made, rest)
 list_made room start ts us rest es all e made free first kept read close push fits =
     list_ends room start ts us rest es all e free first kept read close push ∙ ap (option_map (with_rest rest)) fits
 
+-- a list that is too deep is refused
 pub list_too_deep : (room : ℕ) (start ts us rest : List Token) (es all : List Expr) (e : Expr) → 0 < room → is_at CloseSquare start ≡ false
     → Keeps room start es ts → inside room ts ≡ Some (e, us) → us ≡ Sign CloseSquare ∷ rest → all ≡ es ++ e ∷ []
     → within (Listed all) ≡ None → list_of (nat_lt 0 room) (inside room) start ≡ None

@@ -154,11 +154,13 @@ whole : (text : List ℕ) → 0 < length text → text ≡ get_or text 0 0 ∷ d
 whole [] h = absurd (omega arith)
 whole (b ∷ rest) h = refl
 
+-- a quote begins a text in quotes
 pub first_quoted : (signed : Bool) (text : List ℕ) → is_quote (get_or text 0 0) ≡ true
     → read_quoted (quoted (get_or text 0 0) (take (length text - 1) (drop 1 text))) ≡ first_token signed (get_or text 0 0) (drop 1 text)
 unfolding first_token
 first_quoted signed text h = rw (h, take_rest text 1)
 
+-- a letter, a digit or `_` begins a run
 pub first_run : (signed : Bool) (text : List ℕ) → 0 < length text → is_quote (get_or text 0 0) ≡ false → is_word_byte (get_or text 0 0) ≡ true
     → read_run text ≡ first_token signed (get_or text 0 0) (drop 1 text)
 unfolding first_token
@@ -173,6 +175,7 @@ last q r n s u v w h k l = rw (h, k, l)
 begins_negative : Bool → ℕ → List ℕ → Bool
 begins_negative signed b rest = signed && b == 45 && is_digit (get_or rest 0 0)
 
+-- a `-` before a digit begins a negative number, where these are read
 pub first_negative : (signed : Bool) (text : List ℕ) → is_quote (get_or text 0 0) ≡ false → is_word_byte (get_or text 0 0) ≡ false
     → signed && get_or text 0 0 == 45 && is_digit (get_or (take (length text - 1) (drop 1 text)) 0 0) ≡ true
     → read_negative (take (length text - 1) (drop 1 text)) ≡ first_token signed (get_or text 0 0) (drop 1 text)
@@ -185,6 +188,7 @@ first_negative signed text h k l =
     (is_quote b) (is_word_byte b) (begins_negative signed b rest) h k
     (ap (begins_negative signed b) (sym (take_rest text 1)) ∙ l)
 
+-- any other byte begins an operator or a mark
 pub first_sign : (signed : Bool) (text : List ℕ) → 0 < length text → is_quote (get_or text 0 0) ≡ false → is_word_byte (get_or text 0 0) ≡ false
     → signed && get_or text 0 0 == 45 && is_digit (get_or (take (length text - 1) (drop 1 text)) 0 0) ≡ false
     → read_sign text (op_at text) ≡ first_token signed (get_or text 0 0) (drop 1 text)
@@ -203,12 +207,14 @@ empty_of : (text : List ℕ) → length text ≡ 0 → text ≡ []
 empty_of [] h = refl
 empty_of (b ∷ rest) h = absurd (omega arith)
 
+-- nothing but white space has no token
 pub at_end : (signed : Bool) (text behind : List ℕ) → behind ≡ without_white text → length behind == 0 ≡ true
     → (tokens signed text ≡ []) × (tokens signed behind ≡ [])
 at_end signed text behind w h =
     let e : behind ≡ [] = empty_of behind (is_zero (length behind) h) in
     (tokens_none signed text (sym w ∙ e), ap (tokens signed) e ∙ tokens_none signed [] refl)
 
+-- behind the white space stands the first token, and behind it the others
 pub at_token : (signed : Bool) (text behind : List ℕ) (r : Read) → behind ≡ without_white text → length behind == 0 ≡ false
     → r ≡ first_token signed (get_or behind 0 0) (drop 1 behind) → tokens signed text ≡ r.0 ∷ tokens signed r.1
 at_token signed text behind r w h e =

@@ -16,16 +16,19 @@ use Rattle.sc_types.specs.declared.value.Value.TheOpen.{Value-F}
 use Rattle.sc_types.specs.declared.value.Value.TheVariants.{Bool as Truth, Int, Text as Quoted, List as Listed, rolls-Bool, rolls-Int, rolls-Text, rolls-List}
 use Rattle.sc_expr.specs.Literals.{first_item, separated, comma}
 
+-- a text without white space round it is the literal of its tokens
 pub literal_trimmed : (text : List ℕ) → is_trimmed text ≡ true → literal_value text ≡ value_of (tokens true text)
 unfolding literal_value
 literal_trimmed text h = rw h
 
+-- a text with white space round it is no literal
 pub literal_untrimmed : (text : List ℕ) → is_trimmed text ≡ false → literal_value text ≡ None
 unfolding literal_value
 literal_untrimmed text h = rw h
 
 -- ---- the items of a list
 
+-- where the list goes on, a comma comes next
 pub at_comma : (more : Bool) (ts rest : List Token) → more ≡ true → separated more ts rest → ts ≡ Sign Comma ∷ rest
 at_comma true ts rest h e = e
 at_comma false ts rest h e = cc
@@ -47,6 +50,7 @@ a_first (t ∷ ts) v new h = by (item_of t) h
     by None h = cc
     by (Some w) h = let p = some_pair_parts w v ts new h in rw (p.0, p.1)
 
+-- a comma without an item behind it is refused
 pub no_item : (ts rest : List Token) → ts ≡ Sign Comma ∷ rest → first_item rest ≡ None → further_items ts ≡ None
 no_item ts rest e h = ap further_items e ∙ no_first rest h
 
@@ -54,6 +58,7 @@ added : (items : List Value) (v : Value) (o : Option (List Value)) → option_ma
 added items v None = refl
 added items v (Some vs) = ap (λ all. Some all) (append_assoc items (v ∷ []) vs)
 
+-- one item more was read
 pub an_item : (ts rest new : List Token) (v : Value) (items all : List Value) → ts ≡ Sign Comma ∷ rest → first_item rest ≡ Some (v, new) → all ≡ items ++ v ∷ []
     → option_map (λ vs. all ++ vs) (further_items new) ≡ option_map (λ vs. items ++ vs) (further_items ts)
 an_item ts rest new v items all e h a =
@@ -62,18 +67,22 @@ an_item ts rest new v items all e h a =
 
 -- ---- the text of a value
 
+-- the text of a truth value
 pub truth-text : (b : Bool) → value_text (Truth b) ≡ truth_text b
 unfolding value_text
 truth-text b = ap value_text (sym (rolls-Bool b)) ∙ fold-roll-Value (List ℕ) value_step (Value-F.Bool b)
 
+-- the text of a number
 pub number-text : (n : ℤ) → value_text (Int n) ≡ signed_decimal n
 unfolding value_text
 number-text n = ap value_text (sym (rolls-Int n)) ∙ fold-roll-Value (List ℕ) value_step (Value-F.Int n)
 
+-- the text of a text, in quotes
 pub quoted-text : (text : List ℕ) → value_text (Quoted text) ≡ text_literal text
 unfolding value_text
 quoted-text text = ap value_text (sym (rolls-Text text)) ∙ fold-roll-Value (List ℕ) value_step (Value-F.Text text)
 
+-- the text of a list, in brackets
 pub list-text : (items : List Value) → value_text (Listed items) ≡ codes "[" ++ joined (map value_text items) ++ codes "]"
 unfolding value_text
 list-text items = ap value_text (sym (rolls-List items)) ∙ fold-roll-Value (List ℕ) value_step (Value-F.List items)
@@ -94,6 +103,7 @@ joined-push (a ∷ b ∷ ts) text =
     ∙ ap (λ t. t ++ text) (sym (append_assoc (a ++ codes ",") (joined (b ∷ ts)) c))
     ∙ ap (λ c. a ++ codes "," ++ joined (b ∷ ts) ++ c ++ text) same
 
+-- one item more was written
 pub next_text : (items : List Value) (i : ℕ) (v : Value) (head : List ℕ) → i < length items → v ≡ get_or items i v
     → head ++ joined (map value_text (take i items)) ++ comma i ++ value_text v ≡ head ++ joined (map value_text (take (i + 1) items))
 next_text items i v head h e =
@@ -106,6 +116,7 @@ next_text items i v head h e =
     (sym (append_assoc (joined done) (comma i) (value_text v)) ∙ ap (λ n. joined done ++ comma n ++ value_text v) (sym size) ∙ sym (joined-push done (value_text v))
     ∙ ap joined (sym (map-append value_text (take i items) (v ∷ []))) ∙ ap (λ (vs : List Value). joined (map value_text vs)) (sym more))
 
+-- a list whose items were all written is closed by `]`
 pub closed_text : (items : List Value) (i : ℕ) (old head out new : List ℕ) → head ≡ old ++ codes "[" → out ≡ head ++ joined (map value_text (take i items)) → length items ≤ i
     → new ≡ out ++ codes "]" → new ≡ old ++ value_text (Listed items)
 closed_text items i old head out new h o all n =

@@ -48,6 +48,7 @@ chained_from_op operand bound a op ts shallow =
     ∙ at_operator_alike operand bound (λ e us. chained operand bound 256 e us) (λ e us. chained_from operand bound e us) a op ts
     (λ e us deeper h. chained_fuel operand bound 256 (257 - depth e) e us h (omega arith) (omega arith))
 
+-- an operator comes next
 abbrev pub begins_operator : List Token → Bool
 begins_operator (Operator op ∷ ts) = true
 begins_operator ts = false
@@ -95,6 +96,7 @@ indexed_from_square inner a ts shallow =
     ∙ at_square_alike inner (λ e us. indexed inner 256 e us) (λ e us. indexed_from inner e us) a ts
     (λ e us deeper h. indexed_fuel inner 256 (257 - depth e) e us h (omega arith) (omega arith))
 
+-- a `[` comes next
 abbrev pub begins_square : List Token → Bool
 begins_square (Sign OpenSquare ∷ ts) = true
 begins_square ts = false

@@ -14,6 +14,7 @@ use Rattle.sc_types.specs.Delays.{are_digits}
 use Rattle.sc_types.specs.Tokens.{number_of}
 use Rattle.sc_expr.specs.Numbers.{below, digits_number, has_leading_zero}
 
+-- texts of digits write the numbers that std reads in them
 pub own : IsNumeralModel (λ ds. are_digits ds ≡ true) (digits_value 10)
 own = numerals_by_value _ (search rules)
 
@@ -33,11 +34,13 @@ parsed_number : {E : Type 0} (most size value : ℕ) (r : Result ℕ E) → OkIf
 parsed_number most size value (Ok x) h = ap (λ n. Some n) h.1 ∙ cut_yes most size value h.0.0 h.0.1
 parsed_number most size value (Err e) h = cut_no most size value h
 
+-- digits are read by std exactly as the number of 64 bits that they write
 pub parsed : {E : Type 0} (text : List ℕ) (r : Result ℕ E) → ParsesUnsigned 64 10 text r → are_digits text ≡ true → result_ok r ≡ digits_number text
 parsed text r h d =
     parsed_number (2 ^ 64) (length text) (digits_value 10 text) r (parse_digits own 64 text r h d)
     ∙ ap (λ v. if nat_lt 0 (length text) && v then below (2 ^ 64) (Some (digits_value 10 text)) else None) (sym d)
 
+-- digits are UTF-8
 pub no_text : (text : List ℕ) → (IsUtf8 text → ⊥) → are_digits text ≡ true → None ≡ digits_number text
 no_text text n d = absurd (n (IsUtf8-from_ascii text (IsAscii-from_digits text (own.to text d))))
 
@@ -72,6 +75,7 @@ both true true h = (refl, refl)
 both true false h = cc
 both false b h = cc
 
+-- two tests that pass both pass together
 pub all_true : (a b : Bool) → a ≡ true → b ≡ true → a && b ≡ true
 all_true a b h k = rw (h, k)
 
@@ -104,6 +108,7 @@ above-if c d bound n h = rw (le-ltb n bound h) (by c d)
     by false true = refl
     by false false = refl
 
+-- digits without a leading zero write the number that they stand for
 pub number_plain : (text : List ℕ) → has_leading_zero text ≡ false → digits_number text ≡ below (2 ^ 64) (number_of text)
 number_plain text z =
     let n = digits_value 10 text in
@@ -123,6 +128,7 @@ not_true : (b : Bool) → (b ≡ true → ⊥) → false ≡ b
 not_true true n = absurd (n refl)
 not_true false n = refl
 
+-- digits with a leading zero write no number
 pub number_with_zero : (text : List ℕ) → has_leading_zero text ≡ true → None ≡ below (2 ^ 64) (number_of text)
 number_with_zero text z =
     let n = digits_value 10 text in

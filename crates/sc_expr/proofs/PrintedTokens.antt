@@ -117,6 +117,7 @@ EndsRun (b ∷ text) = is_word_byte b ≡ false
 pub record ReadsAs (signed : Bool) (text : List ℕ) (ts : List Token) : Type 0 where
   pub before : (rest : List ℕ) → {us : List Token} → EndsRun rest → tokens signed rest ≡ us → tokens signed (text ++ rest) ≡ ts ++ us
 
+-- a text of these tokens is read as them, where nothing stands behind it
 pub reads_alone : {signed : Bool} {text : List ℕ} {ts : List Token} → ReadsAs signed text ts → tokens signed text ≡ ts
 reads_alone {signed} r = simp append-nil at (r.before [] tt (tokens_none signed [] refl))
 
@@ -148,6 +149,7 @@ FollowsBang-word (b ∷ w) rest some all = ne_eqb 61 b (λ e. true≢false (sym 
 word_is_no_quote : (b : ℕ) → is_word_byte b ≡ true → is_quote b ≡ false
 word_is_no_quote b word = or_from _ _ (apart is_word_byte b 39 word refl) (apart is_word_byte b 34 word refl)
 
+-- a byte of a word is no white space
 pub word_is_not_white : (b : ℕ) → is_word_byte b ≡ true → is_white_space b ≡ false
 word_is_not_white b word =
     or_from _ _ (or_from _ _ (or_from _ _ (apart is_word_byte b 32 word refl) (apart is_word_byte b 9 word refl)) (apart is_word_byte b 10 word refl)) (apart is_word_byte b 13 word refl)
@@ -182,11 +184,13 @@ all_push p [] y all last = and_from _ _ last refl
 all_push p (x ∷ xs) y all last =
     let both = and_parts (p x) (list_all p xs) all in and_from _ _ both.0 (all_push p xs y both.1 last)
 
+-- a number is printed as one digit or more
 pub decimal_digits : (n : ℕ) → n < 2 ^ 64 → IsDigits (decimal n)
 decimal_digits = decimal_by_steps (λ n ds. IsDigits ds)
     (λ n small. (and_from _ _ (grind (arith, nat_tests)) refl, omega arith))
     (λ n ds big front. (all_push is_digit ds _ front.0 (grind (arith, nat_tests)), omega (arith, length-append ds ((48 + n % 10) ∷ []))))
 
+-- digits may stand in a word
 pub digits_are_words : (ds : List ℕ) → list_all is_digit ds ≡ true → list_all is_word_byte ds ≡ true
 digits_are_words [] all = refl
 digits_are_words (d ∷ ds) all =

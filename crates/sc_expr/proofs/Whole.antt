@@ -14,15 +14,18 @@ use Rattle.sc_expr.proofs.Limits.{within_limits}
 ends : (ts rest : List Token) (e : Expr) → loose_at 256 6 ts ≡ Some (e, rest) → rest ≡ [] → expression_of ts ≡ Some e
 ends ts rest e read end = ap (option_and_then whole) (read ∙ ap (λ us. Some (e, us)) end)
 
+-- an expression with nothing behind it is spelled by the text
 pub whole_read : (text : List ℕ) (rest : List Token) (e : Expr) → loose_at 256 6 (tokens false text) ≡ Some (e, rest) → rest ≡ []
     → IsExpression text e
 whole_read text rest e read end =
     let known = reads_spelled (tokens false text) e (ends (tokens false text) rest e read end) in
     record { spelled = known.0; shallow = known.1 }
 
+-- an expression that was read is within the limits
 pub whole_within : (text : List ℕ) (rest : List Token) (e : Expr) → loose_at 256 6 (tokens false text) ≡ Some (e, rest) → rest ≡ [] → IsExpr e
 whole_within text rest e read end = within_limits text e (whole_read text rest e read end)
 
+-- the text spells no other expression
 pub whole_only : (text : List ℕ) (rest : List Token) (e : Expr) → loose_at 256 6 (tokens false text) ≡ Some (e, rest) → rest ≡ []
     → (other : Expr) → IsExpression text other → other ≡ e
 whole_only text rest e read end other is =
@@ -33,6 +36,7 @@ whole_only text rest e read end other is =
 refused : (text : List ℕ) (o : Option Expr) → expression_of (tokens false text) ≡ o → o ≡ None → (e : Expr) → ¬ IsExpression text e
 refused text o read none e is = none-some e (sym (read ∙ none) ∙ spelled_reads (tokens false text) e is.spelled is.shallow)
 
+-- a text of which no expression is read spells none
 pub whole_refused : (text : List ℕ) → loose_at 256 6 (tokens false text) ≡ None → (e : Expr) → ¬ IsExpression text e
 whole_refused text none e is = refused text _ (ap (option_and_then whole) none) refl e is
 
@@ -40,18 +44,22 @@ more_behind : (e : Expr) (rest : List Token) → ¬ (rest ≡ []) → whole (e, 
 more_behind e [] more = absurd (more refl)
 more_behind e (t ∷ rest) more = refl
 
+-- a text with more behind its expression spells none
 pub whole_unended : (text : List ℕ) (rest : List Token) (read : Expr) → loose_at 256 6 (tokens false text) ≡ Some (read, rest) → ¬ (rest ≡ [])
     → (e : Expr) → ¬ IsExpression text e
 whole_unended text rest read got more e is = refused text _ (ap (option_and_then whole) got) (more_behind read rest more) e is
 
+-- an expression with nothing behind it is the value of the text
 pub whole_value : (text : List ℕ) (rest : List Token) (e : Expr) → loose_at 256 6 (tokens false text) ≡ Some (e, rest) → rest ≡ [] → expr_of text ≡ Some e
 unfolding expr_of
 whole_value text rest e read end = ends (tokens false text) rest e read end
 
+-- a text of which no expression is read has no value
 pub whole_none : (text : List ℕ) → loose_at 256 6 (tokens false text) ≡ None → expr_of text ≡ None
 unfolding expr_of
 whole_none text none = ap (option_and_then whole) none
 
+-- a text with more behind its expression has no value
 pub whole_unended_none : (text : List ℕ) (rest : List Token) (read : Expr) → loose_at 256 6 (tokens false text) ≡ Some (read, rest) → ¬ (rest ≡ [])
     → expr_of text ≡ None
 unfolding expr_of

@@ -91,7 +91,9 @@ unfoldable pub chained : Parse Expr → ℕ → ℕ → Expr → Parse Expr
 chained operand bound zero a ts = None
 chained operand bound (suc n) a (Operator op ∷ ts) =
     if looseness op == bound
-    then option_and_then (λ (r : Expr × List Token). option_and_then (λ e. if repeats op then chained operand bound n e r.1 else Some (e, r.1)) (within (Two op a r.0))) (operand ts)
+    then option_and_then (λ (r : Expr × List Token).
+    option_and_then (λ e. if repeats op then chained operand bound n e r.1 else Some (e, r.1)) (within (Two op a r.0)))
+    (operand ts)
     else Some (a, Operator op ∷ ts)
 chained operand bound (suc n) a ts = Some (a, ts)
 
@@ -109,7 +111,9 @@ prefixed operand (t ∷ ts) = operand (t ∷ ts)
 unfoldable pub indexed : Parse Expr → ℕ → Expr → Parse Expr
 indexed inner zero a ts = None
 indexed inner (suc n) a (Sign OpenSquare ∷ ts) =
-    option_and_then (λ (r : Expr × List Token). option_and_then (λ rest. option_and_then (λ e. indexed inner n e rest) (within (Item a r.0))) (after_close_square r.1)) (inner ts)
+    option_and_then (λ (r : Expr × List Token).
+    option_and_then (λ rest. option_and_then (λ e. indexed inner n e rest) (within (Item a r.0))) (after_close_square r.1))
+    (inner ts)
 indexed inner (suc n) a ts = Some (a, ts)
 
 abbrev pub indexed_from : Parse Expr → Expr → Parse Expr
@@ -129,7 +133,8 @@ word ts = None
 
 -- behind `_event.data.`
 abbrev pub payload_of : Parse Expr
-payload_of ts = option_and_then (λ (r : List ℕ × List Token). if is_plain_name r.0 then Some (Field (field.PayloadOf r.0), r.1) else None) (word ts)
+payload_of ts =
+    option_and_then (λ (r : List ℕ × List Token). if is_plain_name r.0 then Some (Field (field.PayloadOf r.0), r.1) else None) (word ts)
 
 -- behind `_event.data`
 abbrev pub payload : Parse Expr
@@ -155,7 +160,8 @@ identified r = option_map (λ rest. (Active r.0, rest)) (after_close r.1)
 
 -- behind `In`
 abbrev pub active : Bool → Parse Expr
-active has_room ts = if has_room then option_and_then (λ us. option_and_then identified (state_id us)) (after_open ts) else None
+active has_room ts =
+    if has_room then option_and_then (λ us. option_and_then identified (state_id us)) (after_open ts) else None
 
 abbrev pub named : Bool → Parse Expr → List ℕ → Parse Expr
 named has_room inner name ts =
@@ -174,7 +180,7 @@ abbrev pub front : Expr → Option (List Expr × List Token) → Option (List Ex
 front e r = option_map (λ (r : List Expr × List Token). (e ∷ r.0, r.1)) r
 
 -- what stands behind an item
-abbrev pub item_end : (List Token → Option (List Expr × List Token)) → Expr → List Token → Option (List Expr × List Token)
+abbrev pub item_end : Parse (List Expr) → Expr → Parse (List Expr)
 item_end later e (Sign Comma ∷ ts) = front e (later ts)
 item_end later e (Sign CloseSquare ∷ ts) = Some (e ∷ [], ts)
 item_end later e ts = None
@@ -192,7 +198,10 @@ items inner (suc n) ts = option_and_then (λ (r : Expr × List Token). item_end 
 
 abbrev pub list_of : Bool → Parse Expr → Parse Expr
 list_of has_room inner (Sign CloseSquare ∷ ts) = if has_room then Some (Listed [], ts) else None
-list_of has_room inner ts = if has_room then option_and_then (λ (r : List Expr × List Token). option_map (with_rest r.1) (within (Listed r.0))) (items inner (length ts) ts) else None
+list_of has_room inner ts =
+    if has_room
+    then option_and_then (λ (r : List Expr × List Token). option_map (with_rest r.1) (within (Listed r.0))) (items inner (length ts) ts)
+    else None
 
 abbrev pub primary : Bool → Parse Expr → Parse Expr
 primary has_room inner [] = None
@@ -204,14 +213,16 @@ primary has_room inner (Sign OpenSquare ∷ ts) = list_of has_room inner ts
 primary has_room inner ts = None
 
 abbrev pub postfix : Bool → Parse Expr → Parse Expr
-postfix has_room inner ts = option_and_then (λ (r : Expr × List Token). indexed_from inner r.0 r.1) (primary has_room inner ts)
+postfix has_room inner ts =
+    option_and_then (λ (r : Expr × List Token). indexed_from inner r.0 r.1) (primary has_room inner ts)
 
 -- an expression whose operators outside brackets are at most this loose
 unfoldable pub loose : Bool → Parse Expr → ℕ → Parse Expr
 loose has_room inner zero ts = postfix has_room inner ts
 loose has_room inner (suc zero) ts = prefixed (postfix has_room inner) ts
 loose has_room inner (suc (suc k)) ts =
-    option_and_then (λ (r : Expr × List Token). chained_from (loose has_room inner (suc k)) (suc (suc k)) r.0 r.1) (loose has_room inner (suc k) ts)
+    option_and_then (λ (r : Expr × List Token). chained_from (loose has_room inner (suc k)) (suc (suc k)) r.0 r.1)
+    (loose has_room inner (suc k) ts)
 
 -- what may stand in brackets, with so many that may yet be opened
 unfoldable pub inside : ℕ → Parse Expr

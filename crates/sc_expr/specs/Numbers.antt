@@ -9,7 +9,8 @@ below bound (Some n) = if nat_lt n bound then Some n else None
 
 -- the number of one digit or more
 abbrev pub digits_number : List ℕ → Option ℕ
-digits_number text = if nat_lt 0 (length text) && are_digits text then below (2 ^ 64) (Some (digits_value 10 text)) else None
+digits_number text =
+    if nat_lt 0 (length text) && are_digits text then below (2 ^ 64) (Some (digits_value 10 text)) else None
 
 abbrev pub has_leading_zero : List ℕ → Bool
 has_leading_zero text = nat_lt 1 (length text) && slice_index text 0 == 48

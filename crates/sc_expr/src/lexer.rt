@@ -36,7 +36,8 @@ impl<'a> Lexer<'a> {
 
     /// The next token; `None` at the end. Behind a bad token nothing is read.
     pub(crate) fn next(&mut self, alloc: Global) -> Result<Option<Token>, NoMemory>
-        ensures ok { IfOk result (λ token. MatchOption token ((self.old ≡ []) × (self.new ≡ [])) (λ t. self.old ≡ t ∷ self.new)) }
+        ensures ok { IfOk result (λ token. MatchOption token ((self.old ≡ []) × (self.new ≡ []))
+            (λ t. self.old ≡ t ∷ self.new)) }
         ensures err { OnErr result (self.new ≡ self.old) }
     {
         let text = without_white(self.rest);
@@ -102,7 +103,8 @@ fn read_token(token: Token, behind: &[u8]) -> (Token, &[u8])
 /// The token at the front of a text that does not begin with white space, and what stands behind it.
 fn first_token(alloc: Global, text: &[u8], signed: bool) -> Result<(Token, &[u8]), NoMemory>
     requires { 0 < length text.now }
-    ensures { IfOk result (λ r. (r.0, r.1.now) ≡ first_token signed (slice_index text.entry.now 0) (drop 1 text.entry.now)) }
+    ensures { IfOk result (λ r. (r.0, r.1.now)
+        ≡ first_token signed (slice_index text.entry.now 0) (drop 1 text.entry.now)) }
 {
     let first = text[0];
     let behind = &text[1..];

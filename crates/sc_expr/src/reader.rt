@@ -6,6 +6,7 @@ ghost use Rattle.sc_types.specs.Tokens.{tokens};
 ghost use Rattle.sc_types.specs.declared.token.Mark.TheVariants.{CloseSquare, Comma};
 ghost use Rattle.sc_types.specs.declared.token.Token.TheVariants.{Mark as Sign};
 ghost use Rattle.sc_expr.specs.Reading.{expr_of};
+ghost use Rattle.sc_expr.specs.Reads.{Passes, Reads, ReadsExpr};
 ghost use Rattle.sc_expr.specs.Descent.{after_open, after_close, after_close_square, operator_at, prefix_at, is_at, is_unended, after_dot, state_id, word, field_of, loose_at, prefixed, postfix, inside, primary, named, bracketed, list_of, active, event_field, payload};
 
 use crate::fault::ExprFault;
@@ -78,7 +79,8 @@ impl<'a> Reader<'a> {
     }
 
     fn advance(&mut self, alloc: Global) -> Result<Option<Token>, NoMemory>
-        ensures { IfOk result (λ token. MatchOption token ((self.old ≡ []) × (self.new ≡ [])) (λ t. self.old ≡ t ∷ self.new)) }
+        ensures { IfOk result (λ token. MatchOption token ((self.old ≡ []) × (self.new ≡ []))
+            (λ t. self.old ≡ t ∷ self.new)) }
     {
         let following = self.lexer.next(alloc)?;
         Ok(mem::replace(&mut self.next, following))
@@ -93,9 +95,7 @@ impl<'a> Reader<'a> {
     }
 
     fn open(&mut self, alloc: Global) -> Result<(), ExprFault>
-        ensures ok { OnOk result (after_open self.old ≡ Some self.new) }
-        ensures refused { result ≡ Err ExprFault.NotExpr → after_open self.old ≡ None }
-        ensures shorter { OnOk result (length self.new ≤ length self.old) }
+        ensures { Passes after_open self.old result self.new }
     {
         match self.advance(alloc)? {
             Some(Token::Mark(Mark::Open)) => Ok(()),
@@ -104,9 +104,7 @@ impl<'a> Reader<'a> {
     }
 
     fn close(&mut self, alloc: Global) -> Result<(), ExprFault>
-        ensures ok { OnOk result (after_close self.old ≡ Some self.new) }
-        ensures refused { result ≡ Err ExprFault.NotExpr → after_close self.old ≡ None }
-        ensures shorter { OnOk result (length self.new ≤ length self.old) }
+        ensures { Passes after_close self.old result self.new }
     {
         match self.advance(alloc)? {
             Some(Token::Mark(Mark::Close)) => Ok(()),
@@ -115,9 +113,7 @@ impl<'a> Reader<'a> {
     }
 
     fn close_square(&mut self, alloc: Global) -> Result<(), ExprFault>
-        ensures ok { OnOk result (after_close_square self.old ≡ Some self.new) }
-        ensures refused { result ≡ Err ExprFault.NotExpr → after_close_square self.old ≡ None }
-        ensures shorter { OnOk result (length self.new ≤ length self.old) }
+        ensures { Passes after_close_square self.old result self.new }
     {
         match self.advance(alloc)? {
             Some(Token::Mark(Mark::CloseSquare)) => Ok(()),
@@ -159,10 +155,7 @@ impl<'a> Reader<'a> {
     #[tactic(auto, using(crate::proofs::Rules::operators))]
     fn loose(&mut self, alloc: Global, room: u32, bound: u8) -> Result<Sub, ExprFault>
         requires { bound ≤ 6 }
-        ensures ok { IfOk result (λ e. loose_at room bound self.old ≡ Some (e, self.new)) }
-        ensures refused { result ≡ Err ExprFault.NotExpr → loose_at room bound self.old ≡ None }
-        ensures shorter { OnOk result (length self.new ≤ length self.old) }
-        ensures shallow { IfOk result (λ e. depth e ≤ 256) }
+        ensures { ReadsExpr (loose_at room bound) self.old result self.new }
     {
         if bound == 0 {
             return self.postfix(alloc, room);
@@ -185,10 +178,7 @@ impl<'a> Reader<'a> {
     #[cycle(descend)]
     #[tactic(auto, using(crate::proofs::Rules::prefixes))]
     fn prefixed(&mut self, alloc: Global, room: u32) -> Result<Sub, ExprFault>
-        ensures ok { IfOk result (λ e. prefixed (postfix (nat_lt 0 room) (inside room)) self.old ≡ Some (e, self.new)) }
-        ensures refused { result ≡ Err ExprFault.NotExpr → prefixed (postfix (nat_lt 0 room) (inside room)) self.old ≡ None }
-        ensures shorter { OnOk result (length self.new ≤ length self.old) }
-        ensures shallow { IfOk result (λ e. depth e ≤ 256) }
+        ensures { ReadsExpr (prefixed (postfix (nat_lt 0 room) (inside room))) self.old result self.new }
     {
         let mut prefixes = Sequence::new(alloc);
         while let Some(prefix) = self.prefix() {
@@ -205,10 +195,7 @@ impl<'a> Reader<'a> {
     #[cycle(descend)]
     #[tactic(auto, using(crate::proofs::Rules::places))]
     fn postfix(&mut self, alloc: Global, room: u32) -> Result<Sub, ExprFault>
-        ensures ok { IfOk result (λ e. postfix (nat_lt 0 room) (inside room) self.old ≡ Some (e, self.new)) }
-        ensures refused { result ≡ Err ExprFault.NotExpr → postfix (nat_lt 0 room) (inside room) self.old ≡ None }
-        ensures shorter { OnOk result (length self.new ≤ length self.old) }
-        ensures shallow { IfOk result (λ e. depth e ≤ 256) }
+        ensures { ReadsExpr (postfix (nat_lt 0 room) (inside room)) self.old result self.new }
     {
         let mut list = self.primary(alloc, room)?;
         while self.is_at(Mark::OpenSquare) {
@@ -224,10 +211,7 @@ impl<'a> Reader<'a> {
     #[cycle(descend)]
     #[tactic(auto, using(crate::proofs::Rules::brackets))]
     fn inside(&mut self, alloc: Global, room: u32) -> Result<Sub, ExprFault>
-        ensures ok { IfOk result (λ e. inside room self.old ≡ Some (e, self.new)) }
-        ensures refused { result ≡ Err ExprFault.NotExpr → inside room self.old ≡ None }
-        ensures shorter { OnOk result (length self.new ≤ length self.old) }
-        ensures shallow { IfOk result (λ e. depth e ≤ 256) }
+        ensures { ReadsExpr (inside room) self.old result self.new }
     {
         if room == 0 {
             return Err(ExprFault::NotExpr);
@@ -238,10 +222,7 @@ impl<'a> Reader<'a> {
     #[cycle(descend)]
     #[tactic(auto, using(crate::proofs::Rules::depths))]
     fn primary(&mut self, alloc: Global, room: u32) -> Result<Sub, ExprFault>
-        ensures ok { IfOk result (λ e. primary (nat_lt 0 room) (inside room) self.old ≡ Some (e, self.new)) }
-        ensures refused { result ≡ Err ExprFault.NotExpr → primary (nat_lt 0 room) (inside room) self.old ≡ None }
-        ensures shorter { OnOk result (length self.new ≤ length self.old) }
-        ensures shallow { IfOk result (λ e. depth e ≤ 256) }
+        ensures { ReadsExpr (primary (nat_lt 0 room) (inside room)) self.old result self.new }
     {
         match self.advance(alloc)? {
             Some(Token::Word(word)) => self.named(alloc, room, word),
@@ -261,10 +242,7 @@ impl<'a> Reader<'a> {
     #[cycle(descend)]
     #[tactic(auto, using(crate::proofs::Rules::depths))]
     fn named(&mut self, alloc: Global, room: u32, word: Bytes) -> Result<Sub, ExprFault>
-        ensures ok { IfOk result (λ e. named (nat_lt 0 room) (inside room) word self.old ≡ Some (e, self.new)) }
-        ensures refused { result ≡ Err ExprFault.NotExpr → named (nat_lt 0 room) (inside room) word self.old ≡ None }
-        ensures shorter { OnOk result (length self.new ≤ length self.old) }
-        ensures shallow { IfOk result (λ e. depth e ≤ 256) }
+        ensures { ReadsExpr (named (nat_lt 0 room) (inside room) word) self.old result self.new }
     {
         let name = word.slice();
         if is(name, b"true") {
@@ -286,10 +264,7 @@ impl<'a> Reader<'a> {
 
     #[cycle(descend)]
     fn bracketed(&mut self, alloc: Global, room: u32) -> Result<Sub, ExprFault>
-        ensures ok { IfOk result (λ e. bracketed (inside room) self.old ≡ Some (e, self.new)) }
-        ensures refused { result ≡ Err ExprFault.NotExpr → bracketed (inside room) self.old ≡ None }
-        ensures shorter { OnOk result (length self.new ≤ length self.old) }
-        ensures shallow { IfOk result (λ e. depth e ≤ 256) }
+        ensures { ReadsExpr (bracketed (inside room)) self.old result self.new }
     {
         self.open(alloc)?;
         let whole = self.inside(alloc, room)?;
@@ -301,10 +276,7 @@ impl<'a> Reader<'a> {
     #[cycle(descend)]
     #[tactic(auto, using(crate::proofs::Rules::lists))]
     fn list(&mut self, alloc: Global, room: u32) -> Result<Sub, ExprFault>
-        ensures ok { IfOk result (λ e. list_of (nat_lt 0 room) (inside room) self.old ≡ Some (e, self.new)) }
-        ensures refused { result ≡ Err ExprFault.NotExpr → list_of (nat_lt 0 room) (inside room) self.old ≡ None }
-        ensures shorter { OnOk result (length self.new ≤ length self.old) }
-        ensures shallow { IfOk result (λ e. depth e ≤ 256) }
+        ensures { ReadsExpr (list_of (nat_lt 0 room) (inside room)) self.old result self.new }
     {
         if room == 0 {
             return Err(ExprFault::NotExpr);
@@ -341,10 +313,7 @@ impl<'a> Reader<'a> {
     /// The state that is asked for, behind `In`.
     #[tactic(auto, using(crate::proofs::Rules::depths))]
     fn active(&mut self, alloc: Global, room: u32) -> Result<Sub, ExprFault>
-        ensures ok { IfOk result (λ e. active (nat_lt 0 room) self.old ≡ Some (e, self.new)) }
-        ensures refused { result ≡ Err ExprFault.NotExpr → active (nat_lt 0 room) self.old ≡ None }
-        ensures shorter { OnOk result (length self.new ≤ length self.old) }
-        ensures shallow { IfOk result (λ e. depth e ≤ 256) }
+        ensures { ReadsExpr (active (nat_lt 0 room)) self.old result self.new }
     {
         if room == 0 {
             return Err(ExprFault::NotExpr);
@@ -356,9 +325,7 @@ impl<'a> Reader<'a> {
     }
 
     fn state_id(&mut self, alloc: Global) -> Result<Bytes, ExprFault>
-        ensures ok { IfOk result (λ id. state_id self.old ≡ Some (id, self.new)) }
-        ensures refused { result ≡ Err ExprFault.NotExpr → state_id self.old ≡ None }
-        ensures shorter { OnOk result (length self.new ≤ length self.old) }
+        ensures { Reads state_id self.old result self.new }
     {
         match self.advance(alloc)? {
             Some(Token::Text(text)) => Ok(text),
@@ -368,9 +335,7 @@ impl<'a> Reader<'a> {
     }
 
     fn word(&mut self, alloc: Global) -> Result<Bytes, ExprFault>
-        ensures ok { IfOk result (λ w. word self.old ≡ Some (w, self.new)) }
-        ensures refused { result ≡ Err ExprFault.NotExpr → word self.old ≡ None }
-        ensures shorter { OnOk result (length self.new ≤ length self.old) }
+        ensures { Reads word self.old result self.new }
     {
         match self.advance(alloc)? {
             Some(Token::Word(word)) => Ok(word),
@@ -379,9 +344,7 @@ impl<'a> Reader<'a> {
     }
 
     fn dot(&mut self, alloc: Global) -> Result<(), ExprFault>
-        ensures ok { OnOk result (after_dot self.old ≡ Some self.new) }
-        ensures refused { result ≡ Err ExprFault.NotExpr → after_dot self.old ≡ None }
-        ensures shorter { OnOk result (length self.new ≤ length self.old) }
+        ensures { Passes after_dot self.old result self.new }
     {
         match self.advance(alloc)? {
             Some(Token::Mark(Mark::Dot)) => Ok(()),
@@ -392,10 +355,7 @@ impl<'a> Reader<'a> {
     /// A field of the event, behind `_event`.
     #[tactic(auto, using(crate::proofs::Rules::depths))]
     fn field(&mut self, alloc: Global) -> Result<Sub, ExprFault>
-        ensures ok { IfOk result (λ e. event_field self.old ≡ Some (e, self.new)) }
-        ensures refused { result ≡ Err ExprFault.NotExpr → event_field self.old ≡ None }
-        ensures shorter { OnOk result (length self.new ≤ length self.old) }
-        ensures shallow { IfOk result (λ e. depth e ≤ 256) }
+        ensures { ReadsExpr event_field self.old result self.new }
     {
         self.dot(alloc)?;
         let word = self.word(alloc)?;
@@ -411,10 +371,7 @@ impl<'a> Reader<'a> {
     /// A part of the payload, or all of it, behind `_event.data`.
     #[tactic(auto, using(crate::proofs::Rules::depths))]
     fn payload(&mut self, alloc: Global) -> Result<Sub, ExprFault>
-        ensures ok { IfOk result (λ e. payload self.old ≡ Some (e, self.new)) }
-        ensures refused { result ≡ Err ExprFault.NotExpr → payload self.old ≡ None }
-        ensures shorter { OnOk result (length self.new ≤ length self.old) }
-        ensures shallow { IfOk result (λ e. depth e ≤ 256) }
+        ensures { ReadsExpr payload self.old result self.new }
     {
         if !self.is_at(Mark::Dot) {
             return Ok(Sub::leaf(Expr::Field(EventField::Payload)));

@@ -1,7 +1,8 @@
 ghost use Rattle.std.specs.Prelude.{◌≡◌, ◌≢◌, ◌≤◌, IfOk};
 ghost use Rattle.sc_types.specs.Expressions.{depth};
 ghost use Rattle.sc_types.specs.declared.expr.Expr.TheVariants.{Two, Item, Len, AsText};
-ghost use Rattle.sc_expr.specs.Descent.{within, prefix_of};
+ghost use Rattle.sc_expr.specs.Descent.{prefix_of};
+ghost use Rattle.sc_expr.specs.Reads.{Makes};
 
 use crate::fault::ExprFault;
 use sc_types::{Boxed, Expr, Op};
@@ -49,9 +50,7 @@ impl Sub {
 
     pub(crate) fn limited(expr: Expr, levels: u32) -> Result<Sub, ExprFault>
         requires { levels ≡ depth expr }
-        ensures ok { IfOk result (λ s. within expr ≡ Some s) }
-        ensures deep { result ≡ Err ExprFault.NotExpr → within expr ≡ None }
-        ensures shallow { IfOk result (λ s. depth s ≤ 256) }
+        ensures made { Makes expr result }
         ensures memory { result ≢ Err ExprFault.NoMemory }
     {
         if levels > 256 {
@@ -76,9 +75,7 @@ impl Sub {
 
     #[tactic(auto, using(crate::proofs::Rules::depths))]
     pub(crate) fn with_prefix(self, alloc: Global, prefix: Prefix) -> Result<Sub, ExprFault>
-        ensures ok { IfOk result (λ s. within (prefix_of prefix self) ≡ Some s) }
-        ensures deep { result ≡ Err ExprFault.NotExpr → within (prefix_of prefix self) ≡ None }
-        ensures shallow { IfOk result (λ s. depth s ≤ 256) }
+        ensures { Makes (prefix_of prefix self) result }
     {
         let Sub { expr, levels } = self;
         let operand = Boxed::new(alloc, expr)?;
@@ -90,9 +87,7 @@ impl Sub {
 
     #[tactic(auto, using(crate::proofs::Rules::depths))]
     pub(crate) fn len(self, alloc: Global) -> Result<Sub, ExprFault>
-        ensures ok { IfOk result (λ s. within (Len self) ≡ Some s) }
-        ensures deep { result ≡ Err ExprFault.NotExpr → within (Len self) ≡ None }
-        ensures shallow { IfOk result (λ s. depth s ≤ 256) }
+        ensures { Makes (Len self) result }
     {
         let Sub { expr, levels } = self;
         Sub::limited(Expr::Len(Boxed::new(alloc, expr)?), levels + 1)
@@ -100,9 +95,7 @@ impl Sub {
 
     #[tactic(auto, using(crate::proofs::Rules::depths))]
     pub(crate) fn as_text(self, alloc: Global) -> Result<Sub, ExprFault>
-        ensures ok { IfOk result (λ s. within (AsText self) ≡ Some s) }
-        ensures deep { result ≡ Err ExprFault.NotExpr → within (AsText self) ≡ None }
-        ensures shallow { IfOk result (λ s. depth s ≤ 256) }
+        ensures { Makes (AsText self) result }
     {
         let Sub { expr, levels } = self;
         Sub::limited(Expr::AsText(Boxed::new(alloc, expr)?), levels + 1)
@@ -110,9 +103,7 @@ impl Sub {
 
     #[tactic(auto, using(crate::proofs::Rules::depths))]
     pub(crate) fn two(alloc: Global, op: Op, left: Sub, right: Sub) -> Result<Sub, ExprFault>
-        ensures ok { IfOk result (λ s. within (Two op left right) ≡ Some s) }
-        ensures deep { result ≡ Err ExprFault.NotExpr → within (Two op left right) ≡ None }
-        ensures shallow { IfOk result (λ s. depth s ≤ 256) }
+        ensures { Makes (Two op left right) result }
     {
         let levels = left.levels.max(right.levels) + 1;
         let left = Boxed::new(alloc, left.expr)?;
@@ -122,9 +113,7 @@ impl Sub {
 
     #[tactic(auto, using(crate::proofs::Rules::depths))]
     pub(crate) fn item(alloc: Global, list: Sub, place: Sub) -> Result<Sub, ExprFault>
-        ensures ok { IfOk result (λ s. within (Item list place) ≡ Some s) }
-        ensures deep { result ≡ Err ExprFault.NotExpr → within (Item list place) ≡ None }
-        ensures shallow { IfOk result (λ s. depth s ≤ 256) }
+        ensures { Makes (Item list place) result }
     {
         let levels = list.levels.max(place.levels) + 1;
         let list = Boxed::new(alloc, list.expr)?;

@@ -68,7 +68,8 @@ fn put_around(
 
 #[cycle(print)]
 fn put_list(out: &mut TextWriter, items: &[Expr]) -> Result<(), NoMemory>
-    ensures { OnOk result (out.new ≡ out.old ++ (codes "[" ++ joined (map expr_text items.now) ++ codes "]")) }
+    ensures { OnOk result (out.new
+        ≡ out.old ++ (codes "[" ++ joined (map expr_text items.now) ++ codes "]")) }
 {
     out.text("[")?;
     for i in 0..items.len() {
