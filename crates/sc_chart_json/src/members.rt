@@ -11,28 +11,10 @@ use crate::element::{attributes, either, required};
 use crate::form::has_form;
 use crate::pieces::pieces;
 use sc_expr::{ExprFault, read_expr};
-use sc_types::{Attribute, Bytes, Form, Member, NoMemory, Sequence, Tag};
+use sc_base::{Bytes, Failure, Sequence};
+use sc_types::{Attribute, Form, Member, Tag};
 use serde_json::{Map, Value};
 use std::alloc::Global;
-
-/// Why the members of an element are not read.
-#[derive(Clone, Copy, Debug, PartialEq, Eq)]
-pub(crate) enum Unread {
-    /// The first attribute by name that should be an expression and is outside the grammar.
-    BadCode(Attribute),
-    NoMemory,
-}
-
-impl From<NoMemory> for Unread {
-    ghost use Rattle.std.specs.Prelude.{◌≡◌};
-    ghost use Rattle.sc_chart_json.specs.declared.members.Unread.TheVariants.{NoMemory};
-
-    ghost from_gives = { λ _ e. e ≡ NoMemory };
-
-    fn from(_error: NoMemory) -> Unread {
-        Unread::NoMemory
-    }
-}
 
 pub(crate) fn text_at<'v>(value: &'v Value, name: &str) -> Option<&'v [u8]>
     ensures { option_map (λ t. t.now) result ≡ text_at name.now (view value.now) }
@@ -162,10 +144,10 @@ pub(crate) fn read_members(
     alloc: Global,
     tag: Tag,
     value: &Value,
-) -> Result<Sequence<(Bytes, Member)>, Unread>
+) -> Result<Sequence<(Bytes, Member)>, Failure<Attribute>>
     ensures ok { IfOk result (λ ms. (bad_code expr_of tag (view value.now) ≡ None)
         × (ms ≡ members_at expr_of tag (view value.now))) }
-    ensures bad { (a : Attribute) → result ≡ Err (Unread.BadCode a)
+    ensures bad { (a : Attribute) → result ≡ Err (Failure.Fault a)
         → bad_code expr_of tag (view value.now) ≡ Some a }
 {
     read_all(alloc, attributes(tag), tag, value)
@@ -176,10 +158,10 @@ fn read_all(
     attributes: &[Attribute],
     tag: Tag,
     value: &Value,
-) -> Result<Sequence<(Bytes, Member)>, Unread>
+) -> Result<Sequence<(Bytes, Member)>, Failure<Attribute>>
     ensures ok { IfOk result (λ ms. (find (is_bad_code expr_of tag (view value.now)) attributes.now ≡ None)
         × (ms ≡ filter_map (member_at expr_of tag (view value.now)) attributes.now)) }
-    ensures bad { (a : Attribute) → result ≡ Err (Unread.BadCode a)
+    ensures bad { (a : Attribute) → result ≡ Err (Failure.Fault a)
         → find (is_bad_code expr_of tag (view value.now)) attributes.now ≡ Some a }
 {
     let mut members = Sequence::new(alloc);
@@ -197,10 +179,10 @@ fn read_member(
     tag: Tag,
     value: &Value,
     attribute: Attribute,
-) -> Result<Option<Member>, Unread>
+) -> Result<Option<Member>, Failure<Attribute>>
     ensures ok { IfOk result (λ o. (is_bad_code expr_of tag (view value.now) attribute ≡ false)
         × (option_map (λ m. (attribute_text attribute, m)) o ≡ member_at expr_of tag (view value.now) attribute)) }
-    ensures bad { (a : Attribute) → result ≡ Err (Unread.BadCode a) → (a ≡ attribute)
+    ensures bad { (a : Attribute) → result ≡ Err (Failure.Fault a) → (a ≡ attribute)
         × (is_bad_code expr_of tag (view value.now) attribute ≡ true) }
 {
     match text_at(value, attribute.text()) {
@@ -215,10 +197,10 @@ fn read_text(
     attribute: Attribute,
     form: Form,
     text: &[u8],
-) -> Result<Option<Member>, Unread>
+) -> Result<Option<Member>, Failure<Attribute>>
     ensures ok { IfOk result (λ o. (is_code form && is_none (expr_of text.now) ≡ false)
         × (o ≡ member_of expr_of form text.now)) }
-    ensures bad { (a : Attribute) → result ≡ Err (Unread.BadCode a) → (a ≡ attribute)
+    ensures bad { (a : Attribute) → result ≡ Err (Failure.Fault a) → (a ≡ attribute)
         × (is_code form && is_none (expr_of text.now) ≡ true) }
 {
     match form {
@@ -231,9 +213,9 @@ fn read_text(
     }
 }
 
-fn read_code(alloc: Global, attribute: Attribute, text: &[u8]) -> Result<Member, Unread>
+fn read_code(alloc: Global, attribute: Attribute, text: &[u8]) -> Result<Member, Failure<Attribute>>
     ensures ok { IfOk result (λ m. member_of expr_of Form.Code text.now ≡ Some m) }
-    ensures bad { (a : Attribute) → result ≡ Err (Unread.BadCode a) → (a ≡ attribute) × (expr_of text.now ≡ None) }
+    ensures bad { (a : Attribute) → result ≡ Err (Failure.Fault a) → (a ≡ attribute) × (expr_of text.now ≡ None) }
 {
     match read_expr(alloc, text) {
         Ok(code) => Ok(Member::Code(code)),
@@ -242,12 +224,12 @@ fn read_code(alloc: Global, attribute: Attribute, text: &[u8]) -> Result<Member,
 }
 
 /// Why the expression of an attribute is not read.
-fn code_unread(attribute: Attribute, fault: ExprFault) -> Unread
-    ensures outside { fault ≡ ExprFault.NotExpr → result ≡ Unread.BadCode attribute }
-    ensures memory { fault ≡ ExprFault.NoMemory → result ≡ Unread.NoMemory }
+fn code_unread(attribute: Attribute, fault: ExprFault) -> Failure<Attribute>
+    ensures outside { fault ≡ ExprFault.NotExpr → result ≡ Failure.Fault attribute }
+    ensures memory { fault ≡ ExprFault.NoMemory → result ≡ Failure.NoMemory }
 {
     match fault {
-        ExprFault::NotExpr => Unread::BadCode(attribute),
-        ExprFault::NoMemory => Unread::NoMemory,
+        ExprFault::NotExpr => Failure::Fault(attribute),
+        ExprFault::NoMemory => Failure::NoMemory,
     }
 }

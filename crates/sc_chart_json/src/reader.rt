@@ -10,8 +10,8 @@ ghost use Rattle.sc_types.specs.declared.limits.TheConstants.{LEVEL_LIMIT, STATE
 ghost use Rattle.sc_expr.specs.Reading.{expr_of};
 ghost use Rattle.sc_chart_json.specs.Walking.{place, Stops, levels_at, IsOwn, IsRead, AreRead};
 
-use crate::members::{Unread, has_fit_members, has_known_members, kids_at, read_members, text_at};
-use sc_base::{Bytes, NoMemory, Plain, Sequence};
+use crate::members::{has_fit_members, has_known_members, kids_at, read_members, text_at};
+use sc_base::{Bytes, Failure, NoMemory, Plain, Sequence};
 use sc_types::faults::{
     BAD_EXPR, BAD_MEMBER, NOT_ELEMENT, NOT_JSON, TOO_DEEP, TOO_LARGE, TOO_MANY, UNKNOWN_MEMBER, UNKNOWN_TAG,
 };
@@ -167,10 +167,10 @@ impl Walk {
     {
         match read_members(alloc, tag, value) {
             Ok(members) => Ok(members),
-            Err(Unread::BadCode(attribute)) => {
+            Err(Failure::Fault(attribute)) => {
                 Err(self.fault_of(alloc, BAD_EXPR, attribute.text().as_bytes()))
             }
-            Err(Unread::NoMemory) => Err(ChartRefusal::NoMemory),
+            Err(Failure::NoMemory) => Err(ChartRefusal::NoMemory),
         }
     }
 

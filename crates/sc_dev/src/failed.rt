@@ -1,4 +1,4 @@
-use std::alloc::AllocError;
+use sc_base::Failure;
 use std::error::Error;
 use std::fmt;
 
@@ -15,42 +15,13 @@ impl fmt::Display for Failed {
 
 impl Error for Failed {}
 
-/// Why a source was not read: it failed, or the program was out of memory.
-#[derive(Clone, Copy, Debug, PartialEq, Eq)]
-pub enum ReadFault {
-    Failed,
-    NoMemory,
-}
-
-impl fmt::Display for ReadFault {
-    fn fmt<W: fmt::Write>(&self, f: &mut fmt::Formatter<W>) -> fmt::Result {
-        match self {
-            ReadFault::Failed => write!(f, "{}", Failed),
-            ReadFault::NoMemory => write!(f, "out of memory"),
-        }
-    }
-}
-
-impl Error for ReadFault {}
-
-impl From<Failed> for ReadFault {
+impl From<Failed> for Failure<Failed> {
     ghost use Rattle.std.specs.Prelude.{◌≡◌};
-    ghost use Rattle.sc_dev.specs.declared.failed.ReadFault.TheVariants.{Failed as Refused};
+    ghost use Rattle.sc_base.specs.declared.failure.Failure.TheVariants.{Fault};
 
-    ghost from_gives = { λ _ e. e ≡ Refused };
+    ghost from_gives = { λ error e. e ≡ Fault error };
 
-    fn from(_error: Failed) -> ReadFault {
-        ReadFault::Failed
-    }
-}
-
-impl From<AllocError> for ReadFault {
-    ghost use Rattle.std.specs.Prelude.{◌≡◌};
-    ghost use Rattle.sc_dev.specs.declared.failed.ReadFault.TheVariants.{NoMemory};
-
-    ghost from_gives = { λ _ e. e ≡ NoMemory };
-
-    fn from(_error: AllocError) -> ReadFault {
-        ReadFault::NoMemory
+    fn from(error: Failed) -> Failure<Failed> {
+        Failure::Fault(error)
     }
 }

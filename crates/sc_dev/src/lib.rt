@@ -14,7 +14,7 @@ mod sure;
 mod transfer;
 mod unread;
 
-pub use failed::{Failed, ReadFault};
+pub use failed::Failed;
 pub use mem_sink::MemSink;
 pub use mem_source::MemSource;
 pub use sink::Sink;

@@ -5,7 +5,8 @@ ghost use Rattle.sc_base.specs.Text.{is_digit};
 ghost use Rattle.sc_types.specs.Tokens.{tokens, op_text, mark_text, op_at, mark_at, bad, read_sign, is_word_byte, run_token, read_token, read_run, read_negative, escape, is_quote, is_plain_byte, quoted, read_quoted, first_token, without_white};
 
 use crate::number::{negative, positive};
-use sc_types::{Bytes, Mark, NoMemory, Op, Sequence, Token, is_text};
+use sc_base::{Bytes, NoMemory, is_text};
+use sc_types::{Mark, Op, Token};
 use std::alloc::Global;
 use std::marker::Model;
 
@@ -147,7 +148,7 @@ fn run_token(alloc: Global, run: &[u8]) -> Result<Token, NoMemory>
     if begins_with_digit(run) {
         return Ok(positive(run));
     }
-    Ok(Token::Word(Sequence::from_slice(alloc, run)?))
+    Ok(Token::Word(Bytes::from_slice(alloc, run)?))
 }
 
 #[tactic(auto, using(crate::proofs::Runs::front))]
@@ -209,7 +210,7 @@ fn read_quoted(alloc: Global, quote: u8, text: &[u8]) -> Result<(Token, &[u8]), 
 fn quoted(alloc: Global, quote: u8, text: &[u8]) -> Result<Option<(Bytes, &[u8])>, NoMemory>
     ensures { IfOk result (λ q. option_map (λ q. (q.0, q.1.now)) q ≡ quoted quote text.entry.now) }
 {
-    let mut content = Sequence::new(alloc);
+    let mut content = Bytes::new(alloc);
     let mut rest = text;
     while let [byte, behind @ ..] = rest {
         if *byte == quote {

@@ -1,4 +1,5 @@
-use sc_dev::{Failed, MemSink, MemSource, ReadFault, Sink, Source, read_up_to, write_all};
+use sc_base::Failure;
+use sc_dev::{Failed, MemSink, MemSource, Sink, Source, read_up_to, write_all};
 use std::test::Fail;
 
 #[test]
@@ -41,7 +42,7 @@ fn a_source_is_read_to_its_end_or_one_byte_past_the_limit(rt: HostRuntime) -> Re
     }
     let mut source = MemSource::new(rt.alloc(), b"abcde", 2, &[2])?;
     let failed = read_up_to(rt.alloc(), &mut source, 9).err();
-    assert_eq!(rt; failed, Some(ReadFault::Failed));
+    assert_eq!(rt; failed, Some(Failure::Fault(Failed)));
     Ok(())
 }
 

@@ -6,10 +6,10 @@ ghost use Rattle.sc_law.specs.Flat.Turn.{turn};
 
 use crate::flat::read_flat_chart;
 use sc_law::{Tree, TurnResult, turn};
+use sc_base::{Bytes, NoMemory, Plain, Queue, Sequence, SmallBytes, Word};
 use sc_types::{
-    Bytes, Chart, ChartFault, ChartImage, Command, Cue, CueName, Data, Delivery, Event, HostImage,
-    Kind, LogLine, NoMemory, Node, PairList, Phase, Plain, Refusal, Reply, Sequence, SessionImage,
-    SessionState, Tag, Word,
+    Chart, ChartFault, ChartImage, Command, Cue, CueName, Data, Delivery, Event, HostImage, Kind,
+    LogLine, Node, PairList, Phase, Refusal, Reply, SessionImage, SessionState, Tag,
 };
 use std::alloc::Global;
 
@@ -139,7 +139,7 @@ impl Host {
             return Ok(refused(alloc, Refusal::Ended(how.copy()?)));
         }
         let number = self.image.events + 1;
-        let event = posted_event(alloc, number, name, pairs)?;
+        let event = posted_event(number, name, pairs)?;
         let receiver = self.image.sessions.item_mut(place);
         receiver.queued.push(event)?;
         self.image.events = number;
@@ -159,7 +159,7 @@ impl Host {
         if let Phase::Ended(how) = &found.state.phase {
             return Ok(refused(alloc, Refusal::Ended(how.copy()?)));
         }
-        let Some(cue) = cue_of(alloc, found)? else {
+        let Some(cue) = cue_of(found)? else {
             return Ok(refused(alloc, Refusal::Idle));
         };
         let turned = self.turn_of(alloc, found, &cue)?;
@@ -217,7 +217,7 @@ impl Host {
     }
 
     /// The ready session that was started first.
-    pub fn ready(&self, alloc: Global) -> Result<Option<Word>, NoMemory>
+    pub fn ready(&self) -> Result<Option<Word>, NoMemory>
         ensures { IfOk result (λ r. r ≡ ready self.now.image) }
     {
         match first_ready(&self.image) {
@@ -264,27 +264,23 @@ fn first_ready(image: &HostImage) -> Option<&SessionImage>
     image.sessions.slice().iter().find(|s| has_cue(s))
 }
 
-fn cue_of(alloc: Global, session: &SessionImage) -> Result<Option<Cue>, NoMemory>
+fn cue_of(session: &SessionImage) -> Result<Option<Cue>, NoMemory>
     ensures { IfOk result (λ cue. cue ≡ cue_of session.now) }
 {
     match &session.state.phase {
         Phase::Fresh => Ok(Some(Cue::Fresh)),
-        Phase::Running => waiting_cue(
-            alloc,
-            session.state.internal.slice(),
-            session.queued.slice(),
-        ),
+        Phase::Running => waiting_cue(&session.state.internal, &session.queued),
         Phase::Ended(_) => Ok(None),
     }
 }
 
-fn waiting_cue(alloc: Global, internal: &[Event], queued: &[Event]) -> Result<Option<Cue>, NoMemory>
+fn waiting_cue(internal: &Queue<Event>, queued: &Queue<Event>) -> Result<Option<Cue>, NoMemory>
     ensures { IfOk result (λ cue. cue ≡ waiting_cue internal.now queued.now) }
 {
-    match (internal, queued) {
-        ([], []) => Ok(None),
-        ([], [front, ..]) => Ok(Some(Cue::External(front.copy()?))),
-        ([_, ..], _) => Ok(Some(Cue::Resume)),
+    match (internal.front(), queued.front()) {
+        (Some(_), _) => Ok(Some(Cue::Resume)),
+        (None, Some(front)) => Ok(Some(Cue::External(front.copy()?))),
+        (None, None) => Ok(None),
     }
 }
 
@@ -299,7 +295,7 @@ fn name_of(cue: &Cue) -> CueName
     }
 }
 
-fn leave_queue(cue: &Cue, queued: &mut Sequence<Event>)
+fn leave_queue(cue: &Cue, queued: &mut Queue<Event>)
     ensures { queued.new ≡ queue_left cue.now queued.old }
 {
     match cue {
@@ -320,7 +316,7 @@ fn finish_step(alloc: Global, session: &mut SessionImage, cue: &Cue, after: Sess
 {
     leave_queue(cue, &mut session.queued);
     if let Phase::Ended(_) = &after.phase {
-        session.queued = Sequence::new(alloc);
+        session.queued = Queue::new(alloc);
     }
     session.state = after;
 }
@@ -365,7 +361,7 @@ fn not_read(alloc: Global) -> ChartFault
     ChartFault {
         number: 1,
         path: Sequence::new(alloc),
-        member: Sequence::new(alloc),
+        member: Bytes::new(alloc),
     }
 }
 
@@ -386,7 +382,7 @@ fn fresh_state(alloc: Global, session: &Word, chart: &Word) -> Result<SessionSta
         values: Sequence::new(alloc),
         entered: Sequence::new(alloc),
         histories: Sequence::new(alloc),
-        internal: Sequence::new(alloc),
+        internal: Queue::new(alloc),
         invokes: Sequence::new(alloc),
         bound: None,
         params: Sequence::new(alloc),
@@ -400,14 +396,14 @@ fn fresh_session(alloc: Global, session: &Word, chart: &Word) -> Result<SessionI
 {
     Ok(SessionImage {
         state: fresh_state(alloc, session, chart)?,
-        queued: Sequence::new(alloc),
+        queued: Queue::new(alloc),
         flagged: false,
         invoker: None,
         depth: 1,
     })
 }
 
-fn pairs_data(alloc: Global, pairs: &PairList) -> Result<Data, NoMemory>
+fn pairs_data(pairs: &PairList) -> Result<Data, NoMemory>
     ensures { IfOk result (λ d. d ≡ pairs_data pairs.now) }
 {
     if pairs.is_empty() {
@@ -417,7 +413,6 @@ fn pairs_data(alloc: Global, pairs: &PairList) -> Result<Data, NoMemory>
 }
 
 fn posted_event(
-    alloc: Global,
     number: u128,
     name: &Word,
     pairs: &PairList,
@@ -426,12 +421,12 @@ fn posted_event(
 {
     Ok(Event {
         number,
-        name: name.name(alloc)?,
+        name: name.name()?,
         kind: Kind::External,
-        sendid: Sequence::new(alloc),
-        origin: Sequence::new(alloc),
-        origintype: Sequence::new(alloc),
-        invokeid: Sequence::new(alloc),
-        payload: pairs_data(alloc, pairs)?,
+        sendid: SmallBytes::empty(),
+        origin: SmallBytes::empty(),
+        origintype: SmallBytes::empty(),
+        invokeid: SmallBytes::empty(),
+        payload: pairs_data(pairs)?,
     })
 }

@@ -49,7 +49,7 @@ impl Run {
             (self.new.host.image.events + self.new.left ≤ self.old.host.image.events + self.old.left) }
     {
         while self.left > 0 {
-            let Some(session) = self.host.ready(alloc)? else {
+            let Some(session) = self.host.ready()? else {
                 return Ok(());
             };
             self.left -= 1;

@@ -82,7 +82,7 @@ fn read_chart_line(alloc: Global, text: &[u8]) -> Result<(Word, Bytes), ScriptRe
     if !is_chart_text(alloc, json)? {
         return Err(ScriptRefusal::NotFirstForm);
     }
-    Ok((name, Sequence::from_slice(alloc, json)?))
+    Ok((name, Bytes::from_slice(alloc, json)?))
 }
 
 fn is_chart_text(alloc: Global, text: &[u8]) -> Result<bool, NoMemory>

@@ -1,8 +1,10 @@
+ghost use Rattle.std.specs.Prelude.{◌≡◌, IfOk};
 ghost use Rattle.std.proofs.Common.{rules};
 
 use crate::event::{Data, Event};
 use crate::value::{PairList, Value};
-use sc_base::{Plain, PlainName, Queue, Sequence, SmallBytes, Word};
+use sc_base::{NoMemory, Plain, PlainName, Queue, Sequence, SmallBytes, Word};
+use std::alloc::AllocError;
 
 /// How a session ended.
 #[derive(Clone, Debug, Drop, PartialEq, Eq)]
@@ -34,7 +36,7 @@ pub struct Invoked {
 }
 
 /// A session between two turns. States are named by their numbers in document order, from 0.
-#[derive(Clone, Debug, Drop, PartialEq, Eq)]
+#[derive(Debug, Drop, PartialEq, Eq)]
 pub struct SessionState {
     pub session: Word,
     pub chart: Word,
@@ -94,8 +96,40 @@ impl Plain for Invoked {
     ghost clone_equals = { Prim.search rules };
 }
 
+// By hand, since the proof of a derived `clone` of so many fields takes many minutes.
+impl Clone for SessionState {
+    ghost is_clone = { λ s copy. copy ≡ s };
+
+    fn clone(&self) -> Result<Self, AllocError> {
+        match copy_state(self) {
+            Ok(state) => Ok(state),
+            Err(NoMemory) => Err(AllocError),
+        }
+    }
+}
+
 impl Plain for SessionState {
-    ghost clone_equals = { Prim.search rules };
+    ghost clone_equals = { λ s copy same. same };
+}
+
+fn copy_state(state: &SessionState) -> Result<SessionState, NoMemory>
+    ensures { IfOk result (λ c. c ≡ state.now) }
+{
+    Ok(SessionState {
+        session: state.session.copy()?,
+        chart: state.chart.copy()?,
+        phase: state.phase.copy()?,
+        configuration: state.configuration.copy()?,
+        values: state.values.copy()?,
+        entered: state.entered.copy()?,
+        histories: state.histories.copy()?,
+        internal: state.internal.copy()?,
+        invokes: state.invokes.copy()?,
+        bound: state.bound.copy()?,
+        params: state.params.copy()?,
+        sends: state.sends,
+        born: state.born,
+    })
 }
 
 impl Plain for Cue {
