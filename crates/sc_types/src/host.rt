@@ -1,8 +1,10 @@
+ghost use Rattle.std.specs.Prelude.{◌≡◌, IfOk};
 ghost use Rattle.std.proofs.Common.{rules};
 
 use crate::event::Event;
 use crate::session::SessionState;
-use sc_base::{Bytes, Plain, Queue, Sequence, SmallBytes, Word};
+use sc_base::{Bytes, NoMemory, Plain, Queue, Sequence, SmallBytes, Word};
+use std::alloc::AllocError;
 
 /// An installed chart: its name, and its text as it was given.
 #[derive(Clone, Debug, Drop, PartialEq, Eq)]
@@ -57,7 +59,7 @@ pub struct TimerImage {
 /// The host's plain data: the clock in milliseconds, how many commands were accepted, events numbered and
 /// sends delayed, the charts in order of installation, the sessions in order of start, and the pending sends
 /// in order of their due times.
-#[derive(Clone, Debug, Drop, PartialEq, Eq)]
+#[derive(Debug, Drop, PartialEq, Eq)]
 pub struct HostImage {
     pub clock: u64,
     pub commands: u64,
@@ -88,6 +90,31 @@ impl Plain for TimerImage {
     ghost clone_equals = { Prim.search rules };
 }
 
+impl Clone for HostImage {
+    ghost is_clone = { λ image copy. copy ≡ image };
+
+    fn clone(&self) -> Result<Self, AllocError> {
+        match copy_image(self) {
+            Ok(image) => Ok(image),
+            Err(NoMemory) => Err(AllocError),
+        }
+    }
+}
+
 impl Plain for HostImage {
-    ghost clone_equals = { Prim.search rules };
+    ghost clone_equals = { λ image copy same. same };
+}
+
+fn copy_image(image: &HostImage) -> Result<HostImage, NoMemory>
+    ensures { IfOk result (λ c. c ≡ image.now) }
+{
+    Ok(HostImage {
+        clock: image.clock,
+        commands: image.commands,
+        events: image.events,
+        delayed: image.delayed,
+        charts: image.charts.copy()?,
+        sessions: image.sessions.copy()?,
+        timers: image.timers.copy()?,
+    })
 }

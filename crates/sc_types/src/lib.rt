@@ -38,7 +38,7 @@ pub use sc_base::{
     Boxed, Bytes, Failure, Name, NoMemory, Plain, PlainName, Queue, Sequence, SmallBytes,
     TextWriter, Unfit, Word, is_plain_name, is_text, is_word,
 };
-pub use session::{Cue, CueName, How, Invoked, Phase, SessionState};
+pub use session::{Cue, CueName, Histories, How, Invoked, Phase, SessionState, Values};
 pub use state_kind::StateKind;
 pub use token::{Mark, Token};
 pub use value::{PairList, Value};

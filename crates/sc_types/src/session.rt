@@ -35,6 +35,12 @@ pub struct Invoked {
     pub child: Word,
 }
 
+/// The data of a session in order of declaration; `None` is a datum that is unset.
+pub type Values = Sequence<(PlainName, Option<Value>)>;
+
+/// The states that each history recorded, by the histories' numbers, ascending.
+pub type Histories = Sequence<(u32, Sequence<u32>)>;
+
 /// A session between two turns. States are named by their numbers in document order, from 0.
 #[derive(Debug, Drop, PartialEq, Eq)]
 pub struct SessionState {
@@ -43,12 +49,10 @@ pub struct SessionState {
     pub phase: Phase,
     /// The active states, ascending.
     pub configuration: Sequence<u32>,
-    /// The data in order of declaration; `None` is a datum that is unset.
-    pub values: Sequence<(PlainName, Option<Value>)>,
+    pub values: Values,
     /// The states that were entered at least once, ascending.
     pub entered: Sequence<u32>,
-    /// The states that each history recorded.
-    pub histories: Sequence<(u32, Sequence<u32>)>,
+    pub histories: Histories,
     /// The internal queue, its front first.
     pub internal: Queue<Event>,
     pub invokes: Sequence<Invoked>,
@@ -112,24 +116,65 @@ impl Plain for SessionState {
     ghost clone_equals = { λ s copy same. same };
 }
 
+/// A copy of a state, in three parts: an early exit then has few values to drop.
 fn copy_state(state: &SessionState) -> Result<SessionState, NoMemory>
     ensures { IfOk result (λ c. c ≡ state.now) }
 {
+    let (session, chart, phase) = copy_names(state)?;
+    let (configuration, values, entered, histories) = copy_sets(state)?;
+    let (internal, invokes, bound, params) = copy_events(state)?;
     Ok(SessionState {
-        session: state.session.copy()?,
-        chart: state.chart.copy()?,
-        phase: state.phase.copy()?,
-        configuration: state.configuration.copy()?,
-        values: state.values.copy()?,
-        entered: state.entered.copy()?,
-        histories: state.histories.copy()?,
-        internal: state.internal.copy()?,
-        invokes: state.invokes.copy()?,
-        bound: state.bound.copy()?,
-        params: state.params.copy()?,
+        session,
+        chart,
+        phase,
+        configuration,
+        values,
+        entered,
+        histories,
+        internal,
+        invokes,
+        bound,
+        params,
         sends: state.sends,
         born: state.born,
     })
+}
+
+fn copy_names(state: &SessionState) -> Result<(Word, Word, Phase), NoMemory>
+    ensures { IfOk result (λ c. c ≡ (state.now.session, state.now.chart, state.now.phase)) }
+{
+    Ok((
+        state.session.copy()?,
+        state.chart.copy()?,
+        state.phase.copy()?,
+    ))
+}
+
+fn copy_sets(
+    state: &SessionState,
+) -> Result<(Sequence<u32>, Values, Sequence<u32>, Histories), NoMemory>
+    ensures { IfOk result (λ c. c
+        ≡ (state.now.configuration, state.now.values, state.now.entered, state.now.histories)) }
+{
+    Ok((
+        state.configuration.copy()?,
+        state.values.copy()?,
+        state.entered.copy()?,
+        state.histories.copy()?,
+    ))
+}
+
+fn copy_events(
+    state: &SessionState,
+) -> Result<(Queue<Event>, Sequence<Invoked>, Option<Event>, PairList), NoMemory>
+    ensures { IfOk result (λ c. c ≡ (state.now.internal, state.now.invokes, state.now.bound, state.now.params)) }
+{
+    Ok((
+        state.internal.copy()?,
+        state.invokes.copy()?,
+        state.bound.copy()?,
+        state.params.copy()?,
+    ))
 }
 
 impl Plain for Cue {
