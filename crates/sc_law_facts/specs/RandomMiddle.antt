@@ -1,5 +1,5 @@
 -- More random charts, with the turns of a session.
-use Rattle.std.specs.Prelude.{List, [], ◌∷◌, Some, None, pos, negsuc, true, false, codes}
+use Rattle.std.specs.Prelude.{List, [], ◌∷◌, Some, None, pos, negsuc, true, codes}
 use Rattle.sc_types.specs.declared.attribute.Attribute.TheVariants as attribute
 use Rattle.sc_types.specs.declared.chart.Tag.TheVariants as tag
 use Rattle.sc_types.specs.declared.effect.Effect.TheVariants.{Send, CancelSend, Invoke, CancelChild}

@@ -1,5 +1,5 @@
 -- Charts that show one rule each, with the turns of a session.
-use Rattle.std.specs.Prelude.{List, [], ◌∷◌, Some, pos, true, codes}
+use Rattle.std.specs.Prelude.{List, [], ◌∷◌, Some, pos, codes}
 use Rattle.sc_types.specs.declared.attribute.Attribute.TheVariants as attribute
 use Rattle.sc_types.specs.declared.chart.Tag.TheVariants as tag
 use Rattle.sc_types.specs.declared.effect.Effect.TheVariants.{Send, CancelSend, Invoke, CancelChild, Forward}
