@@ -142,8 +142,7 @@ queue g place s name pairs =
 
 abbrev pub post_to : HostImage → ℕ → SessionImage → Phase → List ℕ → List (List ℕ × Value) → Answer
 post_to g place s (phase.Ended how) name pairs = refused g (refusal.Ended how)
-post_to g place s phase.Fresh name pairs = accepted (queue g place s name pairs) (Posted (g.events + 1)) []
-post_to g place s phase.Running name pairs = accepted (queue g place s name pairs) (Posted (g.events + 1)) []
+post_to g place s p name pairs = accepted (queue g place s name pairs) (Posted (g.events + 1)) []
 
 abbrev pub post_found : HostImage → Option (ℕ × SessionImage) → List ℕ → List (List ℕ × Value) → Answer
 post_found g None name pairs = refused g refusal.NoSession
@@ -183,8 +182,7 @@ queue_left cue queued = queued
 -- a session that has ended loses its queue
 abbrev pub queue_of_phase : Phase → List Event → List Event
 queue_of_phase (phase.Ended how) queued = []
-queue_of_phase phase.Fresh queued = queued
-queue_of_phase phase.Running queued = queued
+queue_of_phase p queued = queued
 
 abbrev pub after_turn : SessionImage → Cue → TurnResult → SessionImage
 after_turn s cue t = record s { state = t.after; queued = queue_of_phase t.after.phase (queue_left cue s.queued) }
@@ -197,8 +195,7 @@ step_cue g place s (Some cue) =
 
 abbrev pub step_in : HostImage → ℕ → SessionImage → Phase → Answer
 step_in g place s (phase.Ended how) = refused g (refusal.Ended how)
-step_in g place s phase.Fresh = step_cue g place s (cue_of s)
-step_in g place s phase.Running = step_cue g place s (cue_of s)
+step_in g place s p = step_cue g place s (cue_of s)
 
 abbrev pub step_found : HostImage → Option (ℕ × SessionImage) → Answer
 step_found g None = refused g refusal.NoSession

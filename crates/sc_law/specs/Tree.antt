@@ -1,6 +1,6 @@
 -- The states and histories of a chart (SCXML 3.1 to 3.11), named by their places in document order, from 0 (this host's
 -- own rule). What stands where is read off the paths. The root is above every state; a number past the states names it.
-use Rattle.std.specs.Prelude.{ℕ, ◌+◌, Bool, true, false, not, if◌then◌else◌, Option, Some, None, option_and_then, unwrap_or, List, [], ◌∷◌, length, reverse, filter, position, slice_get}
+use Rattle.std.specs.Prelude.{ℕ, ◌+◌, Bool, true, false, not, if◌then◌else◌, Option, unwrap_or, List, [], ◌∷◌, length, reverse, filter, position, slice_get}
 use Rattle.std.specs.List.{list_any}
 use Rattle.std.specs.Option.{option_map_or}
 use Rattle.sc_types.specs.Elements.{is_state, is_numbered}

@@ -1,7 +1,10 @@
 pub mod Crafted
 pub mod Expressions
-pub mod RandomLarge
-pub mod RandomMiddle
-pub mod RandomSmall
+pub mod RandomFifth
+pub mod RandomFirst
+pub mod RandomFourth
+pub mod RandomSecond
+pub mod RandomThird
 pub mod Stories
 pub mod Worked
+pub mod WorkedContent

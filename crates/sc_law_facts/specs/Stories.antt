@@ -1,6 +1,6 @@
 -- Charts with the turns that a session takes one after the other, and expressions with their values. Each was computed by
 -- another program before; that the definitions give the same is what this crate proves.
-use Rattle.std.specs.Prelude.{◌≡◌, ℕ, List, [], ◌∷◌, Result}
+use Rattle.std.specs.Prelude.{◌≡◌, ℕ, pos, negsuc, true, Option, Some, List, [], ◌∷◌, Result, codes}
 use Rattle.sc_types.specs.Elements.{attribute_text}
 use Rattle.sc_types.specs.declared.attribute.Attribute.{Attribute}
 use Rattle.sc_types.specs.declared.chart.Chart.{Chart}
@@ -17,6 +17,7 @@ use Rattle.sc_types.specs.declared.session.Cue.{Cue}
 use Rattle.sc_types.specs.declared.session.SessionState.{SessionState}
 use Rattle.sc_types.specs.declared.value.Value.{Value}
 use Rattle.sc_types.specs.Attributes.{Members}
+use Rattle.sc_types.specs.declared.value.Value.TheVariants as value_of
 use Rattle.sc_law.specs.Runs.{Env}
 use Rattle.sc_law.specs.Evaluation.{value}
 use Rattle.sc_law.specs.Turn.{TurnResult, turn}
@@ -44,6 +45,9 @@ pub record Valued : Type 0 where
   pub expr : Expr
   pub env : Env
   pub result : Result Value EvalFault
+
+abbrev pub valued : Expr → Env → Result Value EvalFault → Valued
+valued e env result = record { expr = e; env = env; result = result }
 
 abbrev pub AreValues : List Valued → Type 0
 AreValues [] = Unit {0}
@@ -74,4 +78,18 @@ event_of k number name = record {
   origintype = [];
   invokeid = [];
   payload = Absent;
+}
+
+-- data of each kind, three states, and what varies: the datum `n` and the event
+abbrev pub sample : Option Value → Option Event → Env
+sample n bound = record {
+  values = (codes "n", n) ∷ (codes "m", Some (value_of.Int (negsuc 4))) ∷ (codes "t", Some (value_of.Text (codes "x")))
+      ∷ (codes "u", Some (value_of.Text (codes "yy")))
+      ∷ (codes "l", Some (value_of.List (value_of.Int (pos 1) ∷ value_of.Text (codes "a") ∷ value_of.Int (pos 5) ∷ [])))
+      ∷ (codes "b", Some (value_of.Bool true)) ∷ (codes "k", Some (value_of.Int (pos 2))) ∷ [];
+  configuration = 0 ∷ 2 ∷ [];
+  ids = (codes "a", 0) ∷ (codes "b", 1) ∷ (codes "#2", 2) ∷ [];
+  bound = bound;
+  session = codes "s";
+  chart_name = codes "nm";
 }

@@ -8,16 +8,24 @@ ghost use Rattle.sc_types.specs.declared.session.Cue.{Cue};
 ghost use Rattle.sc_types.specs.declared.session.SessionState.{SessionState};
 ghost use Rattle.sc_law.specs.Turn.{turn};
 ghost use Rattle.sc_law_facts.specs.Stories.{AreTold, AreValues};
-ghost use Rattle.sc_law_facts.specs.Worked.{worked};
 ghost use Rattle.sc_law_facts.specs.Crafted.{crafted};
-ghost use Rattle.sc_law_facts.specs.RandomSmall.{random_small};
-ghost use Rattle.sc_law_facts.specs.RandomMiddle.{random_middle};
-ghost use Rattle.sc_law_facts.specs.RandomLarge.{random_large};
+ghost use Rattle.sc_law_facts.specs.RandomFifth.{random_fifth};
+ghost use Rattle.sc_law_facts.specs.RandomFirst.{random_first};
+ghost use Rattle.sc_law_facts.specs.RandomFourth.{random_fourth};
+ghost use Rattle.sc_law_facts.specs.RandomSecond.{random_second};
+ghost use Rattle.sc_law_facts.specs.RandomThird.{random_third};
+ghost use Rattle.sc_law_facts.specs.Worked.{worked};
+ghost use Rattle.sc_law_facts.specs.WorkedContent.{worked_content};
 ghost use Rattle.sc_law_facts.specs.Expressions.{edges, first_values, later_values};
 
-/// Charts that show one rule each.
+/// Charts that show one rule of selection, entry or exit each.
 pub fn worked_charts()
     ensures { AreTold worked }
+{}
+
+/// Charts that show one rule of content, data, sends, invokes or the limit each.
+pub fn worked_content_charts()
+    ensures { AreTold worked_content }
 {}
 
 /// Charts that show where the order of steps is easily got wrong.
@@ -26,18 +34,28 @@ pub fn crafted_charts()
 {}
 
 /// Random charts.
-pub fn random_small_charts()
-    ensures { AreTold random_small }
+pub fn random_first_charts()
+    ensures { AreTold random_first }
 {}
 
-/// More random charts.
-pub fn random_middle_charts()
-    ensures { AreTold random_middle }
+/// Random charts.
+pub fn random_second_charts()
+    ensures { AreTold random_second }
 {}
 
-/// Larger random charts.
-pub fn random_large_charts()
-    ensures { AreTold random_large }
+/// Random charts.
+pub fn random_third_charts()
+    ensures { AreTold random_third }
+{}
+
+/// Random charts.
+pub fn random_fourth_charts()
+    ensures { AreTold random_fourth }
+{}
+
+/// Random charts.
+pub fn random_fifth_charts()
+    ensures { AreTold random_fifth }
 {}
 
 /// The limits of numbers, the order of operands, and the names of the platform.

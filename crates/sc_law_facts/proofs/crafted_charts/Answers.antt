@@ -11,7 +11,13 @@ returns c = (
     (
       (refl, tt),
       (
-        (refl, (refl, tt)),
+        (
+          refl,
+          (
+            refl,
+            tt,
+          ),
+        ),
         (
           (refl, tt),
           (
@@ -21,11 +27,14 @@ returns c = (
               (
                 (refl, (refl, tt)),
                 (
-                  (refl, (refl, tt)),
                   (
-                    (refl, tt),
-                    ((refl, (refl, tt)), ((refl, tt), ((refl, (refl, tt)), tt))),
+                    refl,
+                    (
+                      refl,
+                      tt,
+                    ),
                   ),
+                  ((refl, tt), ((refl, (refl, tt)), ((refl, tt), ((refl, (refl, tt)), tt)))),
                 ),
               ),
             ),

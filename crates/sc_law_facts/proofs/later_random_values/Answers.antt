@@ -96,7 +96,19 @@ returns c = (
                                                                                           refl,
                                                                                           (
                                                                                             refl,
-                                                                                            (refl, (refl, (refl, (refl, tt)))),
+                                                                                            (
+                                                                                              refl,
+                                                                                              (
+                                                                                                refl,
+                                                                                                (
+                                                                                                  refl,
+                                                                                                  (
+                                                                                                    refl,
+                                                                                                    tt,
+                                                                                                  ),
+                                                                                                ),
+                                                                                              ),
+                                                                                            ),
                                                                                           ),
                                                                                         ),
                                                                                       ),

@@ -17,64 +17,13 @@ returns c = (
           (
             (
               refl,
-              (
-                refl,
-                (refl, tt),
-              ),
+              (refl, (refl, tt)),
             ),
             (
               (refl, (refl, (refl, (refl, tt)))),
               (
                 (refl, (refl, (refl, (refl, tt)))),
-                (
-                  (refl, (refl, tt)),
-                  (
-                    (refl, (refl, tt)),
-                    (
-                      (refl, tt),
-                      (
-                        (refl, (refl, tt)),
-                        (
-                          (refl, tt),
-                          (
-                            (refl, tt),
-                            (
-                              (refl, (refl, tt)),
-                              (
-                                (
-                                  refl,
-                                  (refl, tt),
-                                ),
-                                (
-                                  (refl, (refl, (refl, tt))),
-                                  (
-                                    (refl, (refl, tt)),
-                                    (
-                                      (refl, (refl, tt)),
-                                      (
-                                        (
-                                          refl,
-                                          (
-                                            refl,
-                                            (
-                                              refl,
-                                              tt,
-                                            ),
-                                          ),
-                                        ),
-                                        ((refl, (refl, tt)), tt),
-                                      ),
-                                    ),
-                                  ),
-                                ),
-                              ),
-                            ),
-                          ),
-                        ),
-                      ),
-                    ),
-                  ),
-                ),
+                ((refl, (refl, tt)), ((refl, (refl, tt)), tt)),
               ),
             ),
           ),

@@ -1,6 +1,6 @@
 use Rattle.std.proofs.Common.{◌≡◌, filter, take}
 use Rattle.sc_types.specs.Elements.{is_numbered}
-use Rattle.sc_law.specs.Nodes.{element, elements, tag_of}
+use Rattle.sc_law.specs.Nodes.{element, tag_of}
 use Rattle.sc_law.proofs.tree.state_paths.Given as goal
 
 abbrev pub invariant-loop-path : goal.invariant-loop-path

@@ -1,19 +1,19 @@
 use Rattle.std.specs.Prelude.{refl}
 use Rattle.sc_law_facts.proofs.Running.{turning}
-use Rattle.sc_law_facts.proofs.random_small_charts.Goals as goal
+use Rattle.sc_law_facts.proofs.random_fifth_charts.Goals as goal
 
 pub returns : goal.returns
 unfolding turning
 returns c = (
-  (refl, (refl, (refl, (refl, tt)))),
+  (refl, (refl, (refl, (refl, (refl, tt))))),
   (
     (refl, (refl, (refl, (refl, tt)))),
     (
-      (refl, (refl, (refl, (refl, tt)))),
+      (refl, (refl, tt)),
       (
-        (refl, (refl, (refl, (refl, tt)))),
+        (refl, (refl, tt)),
         (
-          (refl, (refl, (refl, (refl, tt)))),
+          (refl, (refl, tt)),
           (
             (refl, (refl, tt)),
             (
@@ -21,14 +21,8 @@ returns c = (
                 refl,
                 (
                   refl,
-                  (refl, (refl, tt)),
-                ),
-              ),
-              (
-                (refl, (refl, (refl, (refl, tt)))),
-                (
-                  (refl, (refl, (refl, (refl, tt)))),
                   (
+                    refl,
                     (
                       refl,
                       (
@@ -36,10 +30,10 @@ returns c = (
                         tt,
                       ),
                     ),
-                    ((refl, (refl, (refl, (refl, tt)))), ((refl, (refl, (refl, (refl, tt)))), tt)),
                   ),
                 ),
               ),
+              tt,
             ),
           ),
         ),

@@ -1,34 +1,46 @@
 use Rattle.std.specs.Prelude.{refl}
 use Rattle.sc_law_facts.proofs.Running.{turning}
-use Rattle.sc_law_facts.proofs.random_middle_charts.Goals as goal
+use Rattle.sc_law_facts.proofs.random_second_charts.Goals as goal
 
 pub returns : goal.returns
 unfolding turning
 returns c = (
   (refl, (refl, (refl, (refl, tt)))),
   (
-    (refl, (refl, (refl, (refl, (refl, tt))))),
+    (refl, (refl, (refl, (refl, tt)))),
     (
-      (refl, (refl, tt)),
       (
+        refl,
         (
           refl,
-          (refl, (refl, (refl, (refl, tt)))),
-        ),
-        (
-          (refl, tt),
           (
-            (refl, (refl, (refl, (refl, (refl, tt))))),
+            refl,
             (
+              refl,
+              tt,
+            ),
+          ),
+        ),
+      ),
+      (
+        (refl, (refl, tt)),
+        (
+          (refl, (refl, (refl, (refl, tt)))),
+          (
+            (
+              refl,
               (
                 refl,
                 (
                   refl,
-                  (refl, (refl, (refl, tt))),
+                  (
+                    refl,
+                    tt,
+                  ),
                 ),
               ),
-              ((refl, tt), ((refl, (refl, (refl, (refl, (refl, tt))))), tt)),
             ),
+            tt,
           ),
         ),
       ),

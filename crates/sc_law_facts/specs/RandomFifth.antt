@@ -1,4 +1,4 @@
--- Larger random charts, with the turns of a session.
+-- Random charts, with the turns of a session.
 use Rattle.std.specs.Prelude.{List, [], ◌∷◌, Some, None, pos, negsuc, false, codes}
 use Rattle.sc_types.specs.declared.attribute.Attribute.TheVariants as attribute
 use Rattle.sc_types.specs.declared.chart.Tag.TheVariants as tag
@@ -624,5 +624,5 @@ chart_7 = record {
 }
 
 -- all of these
-abbrev pub random_large : List Story
-random_large = chart_1 ∷ chart_2 ∷ chart_3 ∷ chart_4 ∷ chart_5 ∷ chart_6 ∷ chart_7 ∷ []
+abbrev pub random_fifth : List Story
+random_fifth = chart_1 ∷ chart_2 ∷ chart_3 ∷ chart_4 ∷ chart_5 ∷ chart_6 ∷ chart_7 ∷ []

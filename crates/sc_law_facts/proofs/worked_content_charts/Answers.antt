@@ -1,0 +1,37 @@
+use Rattle.std.specs.Prelude.{refl}
+use Rattle.sc_law_facts.proofs.Running.{turning}
+use Rattle.sc_law_facts.proofs.worked_content_charts.Goals as goal
+
+pub returns : goal.returns
+unfolding turning
+returns c = (
+  (refl, tt),
+  (
+    (refl, (refl, tt)),
+    (
+      (refl, tt),
+      (
+        (refl, tt),
+        (
+          (refl, (refl, tt)),
+          (
+            (refl, (refl, tt)),
+            (
+              (refl, (refl, (refl, tt))),
+              (
+                (refl, (refl, tt)),
+                (
+                  (refl, (refl, tt)),
+                  (
+                    (refl, (refl, (refl, tt))),
+                    ((refl, (refl, tt)), tt),
+                  ),
+                ),
+              ),
+            ),
+          ),
+        ),
+      ),
+    ),
+  ),
+)
