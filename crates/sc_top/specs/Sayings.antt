@@ -10,13 +10,16 @@ use Rattle.sc_top.specs.FirstForm.{IsFirstForm}
 use Rattle.sc_top.specs.Promise.{Reports}
 use Rattle.sc_top.specs.declared.saying.Saying.{Saying}
 use Rattle.sc_top.specs.declared.saying.Saying.TheVariants.{OtherWords, ReadFault, NoScript, Done, Faulty}
+use Rattle.sc_top.specs.declared.status.Status.{Status}
+use Rattle.sc_top.specs.declared.status.Status.TheVariants as status
+use Rattle.sc_top.specs.Statuses.{code}
 
-abbrev pub status_of : Saying → ℕ
-status_of OtherWords = 1
-status_of ReadFault = 4
-status_of NoScript = 12
-status_of (Done text) = 0
-status_of (Faulty text) = 3
+abbrev pub status_of : Saying → Status
+status_of OtherWords = status.OtherWords
+status_of ReadFault = status.ReadFault
+status_of NoScript = status.NotBuilt
+status_of (Done text) = status.Done
+status_of (Faulty text) = status.Faulty
 
 abbrev pub text_of : Saying → List ℕ
 text_of OtherWords = codes "words\n"
@@ -27,14 +30,15 @@ text_of (Faulty text) = text.items
 
 -- of a text that should be a script
 pub data SaysOfScript (text : List ℕ) : ℕ → List ℕ → Type 0 where
-  no_form : ((cs : List Command) → IsFirstForm text cs → ⊥) → SaysOfScript text 12 (codes "not-built\n")
-  reported : (bytes : List ℕ) → Reports text bytes → SaysOfScript text 0 bytes
+  no_form : ((cs : List Command) → IsFirstForm text cs → ⊥)
+      → SaysOfScript text (code status.NotBuilt) (codes "not-built\n")
+  reported : (bytes : List ℕ) → Reports text bytes → SaysOfScript text (code status.Done) bytes
 
 -- of a text that should spell a chart
 
-abbrev pub check_status : Result Chart ChartFault → ℕ
-check_status (Ok chart) = 0
-check_status (Err fault) = 3
+abbrev pub check_status : Result Chart ChartFault → Status
+check_status (Ok chart) = status.Done
+check_status (Err fault) = status.Faulty
 
 abbrev pub check_text : Result Chart ChartFault → List ℕ
 check_text (Ok chart) = line (codes "ok " ++ decimal (count_states chart))
