@@ -5,16 +5,14 @@
 mod counted;
 
 use counted::Counted;
+use sc_top::Status;
 use sc_types::NoMemory;
 use std::process::ExitCode;
 use std::{env, io};
 
-// The status where the program is out of memory, as `top` has it.
-const NO_MEMORY: u8 = 7;
-
 fn main(rt: HostRuntime) -> ExitCode {
     let Ok(words) = words(&rt) else {
-        return ExitCode::from(NO_MEMORY);
+        return ExitCode::from(Status::OutOfMemory.code());
     };
     let mut input = Counted::new(rt.stdin());
     let mut output = Counted::new(rt.stdout());

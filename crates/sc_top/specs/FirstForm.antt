@@ -7,6 +7,7 @@ use Rattle.sc_base.specs.Text.{IsWord, IsPlainName}
 use Rattle.sc_types.specs.declared.command.Command.{Command}
 use Rattle.sc_types.specs.declared.command.Command.TheVariants.{Install, Start, Post}
 use Rattle.sc_law.specs.Lines.{line, command_text}
+use Rattle.sc_top.specs.declared.script_reader.TheConstants.{SCRIPT_LIMIT}
 
 -- this byte is nowhere in the text
 abbrev pub lacks : ℕ → List ℕ → Bool
@@ -44,6 +45,6 @@ pub record HasFirstShape (cs : List Command) : Type 0 where
 
 -- the text has the first form, and spells these commands
 pub record IsFirstForm (text : List ℕ) (cs : List Command) : Type 0 where
-  pub short : length text ≤ 65536
+  pub short : length text ≤ SCRIPT_LIMIT
   pub spelled : text ≡ flat_map (λ c. line (command_text c)) cs
   pub shape : HasFirstShape cs

@@ -4,3 +4,4 @@ pub mod Promise
 pub mod Running
 pub mod Sayings
 pub mod ScriptLines
+pub mod Statuses

@@ -10,14 +10,17 @@ use Rattle.sc_top.specs.FirstForm.{IsFirstForm}
 use Rattle.sc_top.specs.Promise.{Reports}
 use Rattle.sc_top.specs.declared.saying.Saying.{Saying}
 use Rattle.sc_top.specs.declared.saying.Saying.TheVariants.{OtherWords, ReadFault, NoScript, Done, Faulty}
+use Rattle.sc_top.specs.declared.status.Status.{Status}
+use Rattle.sc_top.specs.declared.status.Status.TheVariants as status
+use Rattle.sc_top.specs.Statuses.{code}
 
 -- the status that goes with a saying
-abbrev pub status_of : Saying → ℕ
-status_of OtherWords = 1
-status_of ReadFault = 4
-status_of NoScript = 12
-status_of (Done text) = 0
-status_of (Faulty text) = 3
+abbrev pub status_of : Saying → Status
+status_of OtherWords = status.OtherWords
+status_of ReadFault = status.ReadFault
+status_of NoScript = status.NotBuilt
+status_of (Done text) = status.Done
+status_of (Faulty text) = status.Faulty
 
 -- the bytes that go with a saying
 abbrev pub text_of : Saying → List ℕ
@@ -29,15 +32,16 @@ text_of (Faulty text) = text
 
 -- of a text that should be a script
 pub data SaysOfScript (text : List ℕ) : ℕ → List ℕ → Type 0 where
-  no_form : ((cs : List Command) → IsFirstForm text cs → ⊥) → SaysOfScript text 12 (codes "not-built\n")
-  reported : (bytes : List ℕ) → Reports text bytes → SaysOfScript text 0 bytes
+  no_form : ((cs : List Command) → IsFirstForm text cs → ⊥)
+      → SaysOfScript text (code status.NotBuilt) (codes "not-built\n")
+  reported : (bytes : List ℕ) → Reports text bytes → SaysOfScript text (code status.Done) bytes
 
 -- of a text that should spell a chart
 
 -- the status of a check
-abbrev pub check_status : Result Chart ChartFault → ℕ
-check_status (Ok chart) = 0
-check_status (Err fault) = 3
+abbrev pub check_status : Result Chart ChartFault → Status
+check_status (Ok chart) = status.Done
+check_status (Err fault) = status.Faulty
 
 -- what a check writes
 abbrev pub check_text : Result Chart ChartFault → List ℕ

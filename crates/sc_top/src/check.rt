@@ -1,4 +1,4 @@
-ghost use Rattle.std.specs.Prelude.{◌≡◌, ◌+◌, ◌++◌, Ok, Err, IfOk, OnOk, if◌then◌else◌, decimal, codes};
+ghost use Rattle.std.specs.Prelude.{◌≡◌, ◌+◌, ◌^◌, ◌++◌, nat_lt, Some, None, Ok, Err, IfOk, OnOk, if◌then◌else◌, decimal, codes};
 ghost use Rattle.sc_types.specs.declared.chart.ChartFault.{ChartFault};
 ghost use Rattle.sc_types.specs.ChartTexts.{states_in, count_states};
 ghost use Rattle.sc_types.specs.Elements.{is_numbered};
@@ -57,14 +57,18 @@ fn fault_line(alloc: Global, fault: &ChartFault) -> Result<Bytes, NoMemory>
     Ok(out.into_bytes())
 }
 
-/// How many states an element and those below it are, with parallels, finals and histories.
+/// How many states an element and those below it are, with parallels, finals and histories. A chart with 2^64
+/// states is larger than any memory.
 #[cycle(states)]
 fn states_in(node: &Node) -> Result<u64, NoMemory>
     ensures { IfOk result (λ n. n ≡ states_in node.now) }
 {
     let mut count = states_at(node.tag);
     for kid in node.kids.slice() {
-        count = sum_of(count, states_in(kid)?)?;
+        match sum_of(count, states_in(kid)?) {
+            Some(sum) => count = sum,
+            None => return Err(NoMemory),
+        }
     }
     Ok(count)
 }
@@ -75,12 +79,9 @@ fn states_at(tag: Tag) -> u64
     if tag.is_numbered() { 1 } else { 0 }
 }
 
-/// The sum of two counts of states. A chart with 2^64 states is larger than any memory.
-fn sum_of(a: u64, b: u64) -> Result<u64, NoMemory>
-    ensures { IfOk result (λ n. n ≡ a + b) }
+/// The sum of two counts of states, where it has 64 bits.
+fn sum_of(a: u64, b: u64) -> Option<u64>
+    ensures { result ≡ (if nat_lt (a + b) (2 ^ 64) then Some (a + b) else None) }
 {
-    match a.checked_add(b) {
-        Some(sum) => Ok(sum),
-        None => Err(NoMemory),
-    }
+    a.checked_add(b)
 }

@@ -10,5 +10,7 @@ mod report;
 mod run;
 mod saying;
 mod script_reader;
+mod status;
 
 pub use program::top;
+pub use status::Status;

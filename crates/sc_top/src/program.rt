@@ -1,33 +1,25 @@
-ghost use Rattle.std.specs.Prelude.{◌≡◌, ◌≢◌, ◌↔◌, ℕ, map, string_bytes, IfOk, IfSome, IsTrue, List};
+ghost use Rattle.std.specs.Prelude.{◌≡◌, ◌≢◌, ◌+◌, ◌↔◌, ℕ, map, string_bytes, IfOk, IfSome, IsTrue, List};
 ghost use Rattle.std.specs.Io.KnownBytes.{Appends, Keeps};
 ghost use Rattle.sc_types.specs.declared.command.Command.{Command};
+ghost use Rattle.sc_types.specs.declared.limits.TheConstants.{CHART_TEXT_LIMIT};
 ghost use Rattle.sc_law.specs.Report.{report};
 ghost use Rattle.sc_dev.specs.Causes.{Rose};
 ghost use Rattle.sc_dev.specs.Transfer.{AppendsPart, ConsumesUpTo};
 ghost use Rattle.sc_top.specs.FirstForm.{IsFirstForm};
 ghost use Rattle.sc_top.specs.Promise.{IsRunWords, IsCheckWords, Reports, Says, Output};
 ghost use Rattle.sc_top.specs.Sayings.{status_of, text_of, SaysOfScript};
+ghost use Rattle.sc_top.specs.Statuses.{code};
 
 use crate::check::check_text;
 use crate::report::report_of;
 use crate::run::run_script;
 use crate::saying::Saying;
-use crate::script_reader::{ScriptRefusal, read_script};
-use sc_dev::{ReadFault, Sink, Source, read_up_to, write_all};
-use sc_base::{Bytes, NoMemory};
-use sc_types::Command;
+use crate::script_reader::{SCRIPT_LIMIT, ScriptRefusal, read_script};
+use crate::status::Status;
+use sc_dev::{Sink, Source, read_up_to, write_all};
+use sc_base::{Bytes, Failure, NoMemory};
+use sc_types::{CHART_TEXT_LIMIT, Command};
 use std::alloc::Global;
-
-/// The statuses that say nothing of their own.
-const WRITE_FAULT: u8 = 5;
-
-const OUT_OF_MEMORY: u8 = 7;
-
-/// The most bytes that a script may have.
-const SCRIPT_LIMIT: usize = 65_536;
-
-/// The most bytes that a chart may have.
-const CHART_LIMIT: usize = 1_048_576;
 
 /// The most steps that a run may take.
 const STEP_BUDGET: u64 = 1_000_000;
@@ -40,34 +32,33 @@ const STEP_BUDGET: u64 = 1_000_000;
 /// 12 `not-built` where the text is no script of the first form. After 5, the sink failed and has taken the first
 /// part of what was to be written; after 7 the program was out of memory, and nothing was written.
 pub fn top<S: Source, K: Sink>(alloc: Global, words: &[String], source: &mut S, sink: &mut K) -> u8
-    ensures said { result ≢ 5 → result ≢ 7 → (text : List ℕ)
-        × Says (map string_bytes words.now) (S.left source.old) (Rose (S.faults source.old) (S.faults source.new))
-        result text
+    ensures said { result ≢ code Status.WriteFault → result ≢ code Status.OutOfMemory → (text : List ℕ)
+        × Says (map string_bytes words.now) (S.left source.old)
+        (Rose (S.faults source.old) (S.faults source.new)) result text
         × Appends (K.taken sink.old) (K.taken sink.new) text }
-    ensures cut { result ≡ 5 → (text : List ℕ)
-        × Output (map string_bytes words.now) (S.left source.old) (Rose (S.faults source.old) (S.faults source.new))
-        text
+    ensures cut { result ≡ code Status.WriteFault → (text : List ℕ)
+        × Output (map string_bytes words.now) (S.left source.old)
+        (Rose (S.faults source.old) (S.faults source.new)) text
         × AppendsPart (K.taken sink.old) (K.taken sink.new) text }
-    ensures write { result ≡ 5 → Rose (K.faults sink.old) (K.faults sink.new) }
-    ensures none { result ≡ 7 → Keeps (K.taken sink.old) (K.taken sink.new) }
-    ensures few { ConsumesUpTo 1048577 (S.left source.old) (S.left source.new) }
+    ensures write { result ≡ code Status.WriteFault → Rose (K.faults sink.old) (K.faults sink.new) }
+    ensures none { result ≡ code Status.OutOfMemory → Keeps (K.taken sink.old) (K.taken sink.new) }
+    ensures few { ConsumesUpTo (CHART_TEXT_LIMIT + 1) (S.left source.old) (S.left source.new) }
     ensures few_but_of_check { ¬ IsCheckWords (map string_bytes words.now)
-        → ConsumesUpTo 65537 (S.left source.old) (S.left source.new) }
+        → ConsumesUpTo (SCRIPT_LIMIT + 1) (S.left source.old) (S.left source.new) }
 {
     match saying_of(alloc, words, source) {
-        Ok(saying) => say(sink, saying.text(), saying.status()),
-        Err(NoMemory) => OUT_OF_MEMORY,
+        Ok(saying) => say(sink, &saying),
+        Err(NoMemory) => Status::OutOfMemory.code(),
     }
 }
 
 /// What there is to say of these words.
 fn saying_of<S: Source>(alloc: Global, words: &[String], source: &mut S) -> Result<Saying, NoMemory>
-    ensures says { IfOk result (λ s.
-        Says (map string_bytes words.now) (S.left source.old) (Rose (S.faults source.old) (S.faults source.new))
-        (status_of s) (text_of s)) }
-    ensures few { ConsumesUpTo 1048577 (S.left source.old) (S.left source.new) }
+    ensures says { IfOk result (λ s. Says (map string_bytes words.now) (S.left source.old)
+        (Rose (S.faults source.old) (S.faults source.new)) (code (status_of s)) (text_of s)) }
+    ensures few { ConsumesUpTo (CHART_TEXT_LIMIT + 1) (S.left source.old) (S.left source.new) }
     ensures few_but_of_check { ¬ IsCheckWords (map string_bytes words.now)
-        → ConsumesUpTo 65537 (S.left source.old) (S.left source.new) }
+        → ConsumesUpTo (SCRIPT_LIMIT + 1) (S.left source.old) (S.left source.new) }
 {
     if is_run(words) {
         return run(alloc, source);
@@ -80,25 +71,27 @@ fn saying_of<S: Source>(alloc: Global, words: &[String], source: &mut S) -> Resu
 
 fn run<S: Source>(alloc: Global, source: &mut S) -> Result<Saying, NoMemory>
     ensures says { IfOk result (λ s. (words : List (List ℕ)) → IsRunWords words
-        → Says words (S.left source.old) (Rose (S.faults source.old) (S.faults source.new)) (status_of s) (text_of s)) }
-    ensures few { ConsumesUpTo 65537 (S.left source.old) (S.left source.new) }
+        → Says words (S.left source.old) (Rose (S.faults source.old) (S.faults source.new))
+        (code (status_of s)) (text_of s)) }
+    ensures few { ConsumesUpTo (SCRIPT_LIMIT + 1) (S.left source.old) (S.left source.new) }
 {
     match read_up_to(alloc, source, SCRIPT_LIMIT) {
         Ok(text) => run_text(alloc, text.as_slice()),
-        Err(ReadFault::Failed) => Ok(Saying::ReadFault),
-        Err(ReadFault::NoMemory) => Err(NoMemory),
+        Err(Failure::Fault(_)) => Ok(Saying::ReadFault),
+        Err(Failure::NoMemory) => Err(NoMemory),
     }
 }
 
 fn check<S: Source>(alloc: Global, source: &mut S) -> Result<Saying, NoMemory>
     ensures says { IfOk result (λ s. (words : List (List ℕ)) → IsCheckWords words
-        → Says words (S.left source.old) (Rose (S.faults source.old) (S.faults source.new)) (status_of s) (text_of s)) }
-    ensures few { ConsumesUpTo 1048577 (S.left source.old) (S.left source.new) }
+        → Says words (S.left source.old) (Rose (S.faults source.old) (S.faults source.new))
+        (code (status_of s)) (text_of s)) }
+    ensures few { ConsumesUpTo (CHART_TEXT_LIMIT + 1) (S.left source.old) (S.left source.new) }
 {
-    match read_up_to(alloc, source, CHART_LIMIT) {
+    match read_up_to(alloc, source, CHART_TEXT_LIMIT) {
         Ok(text) => check_text(alloc, text.as_slice()),
-        Err(ReadFault::Failed) => Ok(Saying::ReadFault),
-        Err(ReadFault::NoMemory) => Err(NoMemory),
+        Err(Failure::Fault(_)) => Ok(Saying::ReadFault),
+        Err(Failure::NoMemory) => Err(NoMemory),
     }
 }
 
@@ -125,23 +118,24 @@ fn is_check(words: &[String]) -> bool
     }
 }
 
-/// Writes a text, and answers its status, or that the sink failed.
-fn say<K: Sink>(sink: &mut K, text: &[u8], status: u8) -> u8
-    requires { status ≢ 5 }
-    ensures status { result ≢ 5 → result ≡ status }
-    ensures written { result ≢ 5 → Appends (K.taken sink.old) (K.taken sink.new) text.now }
-    ensures cut { result ≡ 5 → AppendsPart (K.taken sink.old) (K.taken sink.new) text.now }
-    ensures fault { result ≡ 5 → Rose (K.faults sink.old) (K.faults sink.new) }
+/// Writes what there is to say, and answers the number of its status, or that of a sink that failed.
+fn say<K: Sink>(sink: &mut K, saying: &Saying) -> u8
+    ensures status { result ≢ code Status.WriteFault → result ≡ code (status_of saying.now) }
+    ensures written { result ≢ code Status.WriteFault
+        → Appends (K.taken sink.old) (K.taken sink.new) (text_of saying.now) }
+    ensures cut { result ≡ code Status.WriteFault
+        → AppendsPart (K.taken sink.old) (K.taken sink.new) (text_of saying.now) }
+    ensures fault { result ≡ code Status.WriteFault → Rose (K.faults sink.old) (K.faults sink.new) }
 {
-    match write_all(sink, text) {
-        Ok(()) => status,
-        Err(_) => WRITE_FAULT,
+    match write_all(sink, saying.text()) {
+        Ok(()) => saying.status().code(),
+        Err(_) => Status::WriteFault.code(),
     }
 }
 
 /// The report of a script's run, where the text is a script.
 fn run_text(alloc: Global, text: &[u8]) -> Result<Saying, NoMemory>
-    ensures { IfOk result (λ s. SaysOfScript text.now (status_of s) (text_of s)) }
+    ensures { IfOk result (λ s. SaysOfScript text.now (code (status_of s)) (text_of s)) }
 {
     match read_script(alloc, text) {
         Ok(commands) => Ok(Saying::Done(report_run(alloc, text, commands.slice())?)),

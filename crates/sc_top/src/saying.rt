@@ -1,5 +1,8 @@
 ghost use Rattle.std.specs.Prelude.{◌≡◌, ◌≢◌};
 ghost use Rattle.sc_top.specs.Sayings.{status_of, text_of};
+ghost use Rattle.sc_top.specs.Statuses.{code};
+
+use crate::status::Status;
 
 use sc_base::Bytes;
 
@@ -17,28 +20,17 @@ pub(crate) enum Saying {
     Faulty(Bytes),
 }
 
-/// The statuses of the program.
-const DONE: u8 = 0;
-
-const OTHER_WORDS: u8 = 1;
-
-const FAULTY: u8 = 3;
-
-const READ_FAULT: u8 = 4;
-
-const NO_SCRIPT: u8 = 12;
-
 impl Saying {
-    pub(crate) fn status(&self) -> u8
+    pub(crate) fn status(&self) -> Status
         ensures status { result ≡ status_of self.now }
-        ensures no_write_fault { result ≢ 5 }
+        ensures no_write_fault { code result ≢ code Status.WriteFault }
     {
         match self {
-            Saying::OtherWords => OTHER_WORDS,
-            Saying::ReadFault => READ_FAULT,
-            Saying::NoScript => NO_SCRIPT,
-            Saying::Done(_) => DONE,
-            Saying::Faulty(_) => FAULTY,
+            Saying::OtherWords => Status::OtherWords,
+            Saying::ReadFault => Status::ReadFault,
+            Saying::NoScript => Status::NotBuilt,
+            Saying::Done(_) => Status::Done,
+            Saying::Faulty(_) => Status::Faulty,
         }
     }
 

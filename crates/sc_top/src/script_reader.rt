@@ -9,6 +9,9 @@ use crate::flat::read_flat_chart;
 use sc_types::{Bytes, Command, NoMemory, Plain, Sequence, Unfit, Word, is_plain_name};
 use std::alloc::Global;
 
+/// The most bytes that a script may have.
+pub(crate) const SCRIPT_LIMIT: usize = 65_536;
+
 /// Why a script is not read: its text lacks the first form, or the program was out of memory.
 #[derive(Clone, Copy, Debug, PartialEq, Eq)]
 pub enum ScriptRefusal {
@@ -33,7 +36,7 @@ pub(crate) fn read_script(alloc: Global, text: &[u8]) -> Result<Sequence<Command
     ensures none { result ≡ Err ScriptRefusal.NotFirstForm → (cs : List Command) → ¬ IsFirstForm text.now cs }
     ensures only { IfOk result (λ cs. (others : List Command) → IsFirstForm text.now others → others ≡ cs) }
 {
-    if text.len() > 65_536 {
+    if text.len() > SCRIPT_LIMIT {
         return Err(ScriptRefusal::NotFirstForm);
     }
     let Some((first, rest)) = cut(text, b'\n') else {

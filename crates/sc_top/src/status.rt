@@ -1,0 +1,37 @@
+ghost use Rattle.std.specs.Prelude.{◌≡◌};
+ghost use Rattle.sc_top.specs.Statuses.{code};
+
+/// How the program ends.
+#[derive(Clone, Copy, Debug, PartialEq, Eq)]
+pub enum Status {
+    Done,
+    /// The words after the program's name are no command.
+    OtherWords,
+    /// The text spells no legal chart.
+    Faulty,
+    /// The source failed.
+    ReadFault,
+    /// The sink failed, and has taken the first part of what was to be written.
+    WriteFault,
+    /// Nothing was written.
+    OutOfMemory,
+    /// The text is no script of the form that this program runs.
+    NotBuilt,
+}
+
+impl Status {
+    /// The number that the process ends with.
+    pub fn code(self) -> u8
+        ensures { result ≡ code self }
+    {
+        match self {
+            Status::Done => 0,
+            Status::OtherWords => 1,
+            Status::Faulty => 3,
+            Status::ReadFault => 4,
+            Status::WriteFault => 5,
+            Status::OutOfMemory => 7,
+            Status::NotBuilt => 12,
+        }
+    }
+}
