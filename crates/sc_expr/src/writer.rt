@@ -53,12 +53,7 @@ fn put_expr(out: &mut TextWriter, e: &Expr) -> Result<(), NoMemory>
 }
 
 #[cycle(print)]
-fn put_around(
-    out: &mut TextWriter,
-    before: &[u8],
-    e: &Expr,
-    after: &[u8],
-) -> Result<(), NoMemory>
+fn put_around(out: &mut TextWriter, before: &[u8], e: &Expr, after: &[u8]) -> Result<(), NoMemory>
     ensures { OnOk result (out.new ≡ out.old ++ (before.now ++ expr_text e.now ++ after.now)) }
 {
     out.bytes(before)?;
