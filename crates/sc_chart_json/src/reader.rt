@@ -13,10 +13,12 @@ ghost use Rattle.sc_chart_json.specs.Walking.{place, Stops, levels_at, IsOwn, Is
 use crate::members::{has_fit_members, has_known_members, kids_at, read_members, text_at};
 use sc_base::{Bytes, Failure, NoMemory, Plain, Sequence};
 use sc_types::faults::{
-    BAD_EXPR, BAD_MEMBER, NOT_ELEMENT, NOT_JSON, TOO_DEEP, TOO_LARGE, TOO_MANY, UNKNOWN_MEMBER, UNKNOWN_TAG,
+    BAD_EXPR, BAD_MEMBER, NOT_ELEMENT, NOT_JSON, TOO_DEEP, TOO_LARGE, TOO_MANY, UNKNOWN_MEMBER,
+    UNKNOWN_TAG,
 };
 use sc_types::{
-    Attribute, CHART_TEXT_LIMIT, Chart, ChartFault, ChartRefusal, LEVEL_LIMIT, Member, Node, STATE_LIMIT, Tag,
+    Attribute, CHART_TEXT_LIMIT, Chart, ChartFault, ChartRefusal, LEVEL_LIMIT, Member, Node,
+    STATE_LIMIT, Tag,
 };
 use serde_json::{Category, Error, Value};
 use std::alloc::Global;

@@ -8,8 +8,8 @@ ghost use Rattle.sc_types.specs.declared.limits.TheConstants.{CHART_TEXT_LIMIT};
 ghost use Rattle.sc_types.specs.PrintedCharts.{member_text, put_members, put_kids, data_of, chart_text};
 ghost use Rattle.sc_expr.specs.Reading.{expr_of};
 
-use sc_expr::print_expr;
 use sc_base::{Bytes, NoMemory, Plain};
+use sc_expr::print_expr;
 use sc_types::{Chart, Member, Node};
 use serde_json::{Map, Value};
 use std::alloc::Global;
