@@ -114,7 +114,7 @@ const RECIPES: &str =
 {"tag":"scxml","kids":[{"tag":"state","id":"a"}, 4094 {"tag":"state"}, {"tag":"state","id":"a"} ]} => chart 20 4095
 {"tag":"scxml","kids":[ 4095 {"tag":"state"}, {"tag":"state","id":"a"} ],"initial":"a"} => ok 4096
 {"tag":"scxml","kids":[ 4095 {"tag":"final"}, {"tag":"final","kids":[{"tag":"log"}]} ]} => chart 26 4095.0
-{"tag":"scxml","kids":[{"tag":"state","kids":[{"tag":"onentry","kids":[ 5000 {"tag":"log"}, {"tag":"else"}]}]}]} => chart 26 0.0.5000"#;
+{"tag":"scxml","kids":[{"tag":"state","kids":[{"tag":"onentry","kids":[ 65536 {"tag":"log"}, {"tag":"else"}]}]}]} => chart 26 0.0.65536"#;
 
 /// Each line is the tag of an element, and what it has in short.
 const ELEMENTS: &str = "scxml:{state}

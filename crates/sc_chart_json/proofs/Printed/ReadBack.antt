@@ -114,11 +114,10 @@ chart_read_back text t c is utf8 reads short =
     reads_back expr_of printed_read text t c is (is_utf8-from_IsUtf8 t utf8) (reads (shallow_chart text c is)) short
 
 -- where it is printed
-pub printed_back : (text items : List ℕ) (printed : Result (List ℕ) NoMemory) (c : Chart) → IfOk printed (λ t. t ≡ items) → chart_of expr_of text ≡ Ok c
+pub printed_back : (text items printed : List ℕ) (c : Chart) → printed ≡ items → chart_of expr_of text ≡ Ok c
     → IsUtf8 items → (depth (data_of c.root) ≤ 127 → read items ≡ Some (data_of c.root))
-    → IfOk printed (λ t. length t ≤ 1_048_576 → chart_of expr_of t ≡ Ok c)
-printed_back text items (Err e) c same is utf8 reads = tt
-printed_back text items (Ok t) c same is utf8 reads =
+    → length printed ≤ 1_048_576 → chart_of expr_of printed ≡ Ok c
+printed_back text items printed c same is utf8 reads =
     let P : List ℕ → Type 0 = λ t. length t ≤ 1_048_576 → chart_of expr_of t ≡ Ok c in
     subst P (sym same) (chart_read_back text items c is utf8 reads)
 
