@@ -1,9 +1,9 @@
 -- A chart that some text spells is read back from what is printed for it.
-use Rattle.std.proofs.Common.{◌≡◌, ℕ, ◌≤◌, Bool, true, false, if◌then◌else◌, nat_lt, Option, Some, None, unwrap_or, Result, Ok, Err, List, [], length, refl, sym, ap, ◌∙◌, subst, arith}
+use Rattle.std.proofs.Common.{◌≡◌, ℕ, ◌≤◌, Bool, true, false, if◌then◌else◌, nat_lt, Option, Some, None, unwrap_or, Ok, Err, List, [], length, refl, sym, ap, ◌∙◌, subst, arith}
 use Rattle.std.proofs.lemmas.Bool.{ltb-true}
 use Rattle.std.proofs.lemmas.Str.{is_utf8-from_IsUtf8}
 use Rattle.std.specs.Option.{option_map_or}
-use Rattle.std.specs.Prelude.{MatchOption, IfOk}
+use Rattle.std.specs.Prelude.{MatchOption}
 use Rattle.std.specs.Str.{IsUtf8, is_utf8}
 use Rattle.serde_json.specs.Data.{Data, null, depth}
 use Rattle.serde_json.specs.Read.{read}
@@ -15,7 +15,6 @@ use Rattle.sc_types.specs.Tokens.{tokens}
 use Rattle.sc_types.specs.declared.chart.Chart.{Chart}
 use Rattle.sc_types.specs.declared.chart.ChartFault.{ChartFault}
 use Rattle.sc_types.specs.declared.expr.Expr.{Expr}
-use Rattle.sc_base.specs.declared.memory.NoMemory.{NoMemory}
 use Rattle.sc_expr.specs.Reading.{expr_of}
 use Rattle.sc_expr.proofs.Grammar.{spelled_reads}
 use Rattle.sc_expr.proofs.Limits.{within_limits}
