@@ -47,7 +47,9 @@ pub record IsPlainName (text : List ℕ) : Type 0 where
 
 -- `IsPlainName` as a test
 abbrev pub is_plain_name : List ℕ → Bool
-is_plain_name text = nat_le (length text) 128 && starts_with_letter text && list_all (λ b. is_letter b || is_digit b) text && not (is_keyword text)
+is_plain_name text =
+    nat_le (length text) 128 && starts_with_letter text && list_all (λ b. is_letter b || is_digit b) text
+    && not (is_keyword text)
 
 -- line feed and tab are the control characters of a text
 abbrev pub is_text_byte : ℕ → Bool

@@ -112,7 +112,8 @@ unfoldable pub indexed : Parse Expr → ℕ → Expr → Parse Expr
 indexed inner zero a ts = None
 indexed inner (suc n) a (Sign OpenSquare ∷ ts) =
     option_and_then (λ (r : Expr × List Token).
-    option_and_then (λ rest. option_and_then (λ e. indexed inner n e rest) (within (Item a r.0))) (after_close_square r.1))
+    option_and_then (λ rest. option_and_then (λ e. indexed inner n e rest) (within (Item a r.0)))
+    (after_close_square r.1))
     (inner ts)
 indexed inner (suc n) a ts = Some (a, ts)
 
@@ -134,7 +135,8 @@ word ts = None
 -- behind `_event.data.`
 abbrev pub payload_of : Parse Expr
 payload_of ts =
-    option_and_then (λ (r : List ℕ × List Token). if is_plain_name r.0 then Some (Field (field.PayloadOf r.0), r.1) else None) (word ts)
+    option_and_then
+    (λ (r : List ℕ × List Token). if is_plain_name r.0 then Some (Field (field.PayloadOf r.0), r.1) else None) (word ts)
 
 -- behind `_event.data`
 abbrev pub payload : Parse Expr
@@ -200,7 +202,8 @@ abbrev pub list_of : Bool → Parse Expr → Parse Expr
 list_of has_room inner (Sign CloseSquare ∷ ts) = if has_room then Some (Listed [], ts) else None
 list_of has_room inner ts =
     if has_room
-    then option_and_then (λ (r : List Expr × List Token). option_map (with_rest r.1) (within (Listed r.0))) (items inner (length ts) ts)
+    then option_and_then (λ (r : List Expr × List Token). option_map (with_rest r.1) (within (Listed r.0)))
+    (items inner (length ts) ts)
     else None
 
 abbrev pub primary : Bool → Parse Expr → Parse Expr

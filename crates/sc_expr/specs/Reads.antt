@@ -8,20 +8,23 @@ use Rattle.sc_expr.specs.declared.fault.ExprFault.{ExprFault}
 use Rattle.sc_expr.specs.declared.fault.ExprFault.TheVariants.{NotExpr}
 
 -- what `parse` reads of the tokens `old` was read, and the tokens `new` are left
-pub record Reads {A : Type 0} (parse : Parse A) (old : List Token) (answer : Result A ExprFault) (new : List Token) : Type 0 where
+pub record Reads {A : Type 0} (parse : Parse A) (old : List Token) (answer : Result A ExprFault)
+    (new : List Token) : Type 0 where
   pub value : IfOk answer (λ a. parse old ≡ Some (a, new))
   pub refused : answer ≡ Err NotExpr → parse old ≡ None
   pub shorter : OnOk answer (length new ≤ length old)
 
 -- the same of an expression, which is never too deep
-pub record ReadsExpr (parse : Parse Expr) (old : List Token) (answer : Result Expr ExprFault) (new : List Token) : Type 0 where
+pub record ReadsExpr (parse : Parse Expr) (old : List Token) (answer : Result Expr ExprFault)
+    (new : List Token) : Type 0 where
   pub value : IfOk answer (λ e. parse old ≡ Some (e, new))
   pub refused : answer ≡ Err NotExpr → parse old ≡ None
   pub shorter : OnOk answer (length new ≤ length old)
   pub shallow : IfOk answer (λ e. depth e ≤ 256)
 
 -- the tokens that `after` passes over were passed
-pub record Passes {A : Type 0} (after : List Token → Option (List Token)) (old : List Token) (answer : Result A ExprFault) (new : List Token) : Type 0 where
+pub record Passes {A : Type 0} (after : List Token → Option (List Token)) (old : List Token)
+    (answer : Result A ExprFault) (new : List Token) : Type 0 where
   pub value : OnOk answer (after old ≡ Some new)
   pub refused : answer ≡ Err NotExpr → after old ≡ None
   pub shorter : OnOk answer (length new ≤ length old)

@@ -1,6 +1,6 @@
 use sc_types::NoMemory;
 
-/// Why a text was not read: it is outside the grammar, or memory was wanting.
+/// Why a text was not read: it is outside the grammar, or the program was out of memory.
 #[derive(Clone, Copy, Debug, PartialEq, Eq)]
 pub enum ExprFault {
     NotExpr,

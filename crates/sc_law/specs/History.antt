@@ -60,7 +60,8 @@ gives c e = is_posted c e.command e.reply || list_any (is_queued c) e.sent
 -- what a step consumed was given before, to that very session
 abbrev pub GivenBefore : List Entry → List Entry → Type 0
 GivenBefore done [] = Unit {0}
-GivenBefore done (e ∷ es) = IfSome (consumed e) (λ c. IsTrue (list_any (gives c) done)) × GivenBefore (done ++ e ∷ []) es
+GivenBefore done (e ∷ es) =
+    IfSome (consumed e) (λ c. IsTrue (list_any (gives c) done)) × GivenBefore (done ++ e ∷ []) es
 
 pub record IsAtMostOnce (history : List Entry) : Type 0 where
   pub once : (n : ℕ) → count_by (consumes n) history ≤ 1

@@ -82,7 +82,8 @@ session_place g name = position (is_session_named name) g.sessions
 
 -- the session of that name, with its place
 abbrev pub session_named : HostImage → List ℕ → Option (ℕ × SessionImage)
-session_named g name = option_and_then (λ place. option_map (λ s. (place, s)) (slice_get g.sessions place)) (session_place g name)
+session_named g name =
+    option_and_then (λ place. option_map (λ s. (place, s)) (slice_get g.sessions place)) (session_place g name)
 
 abbrev pub with_session : HostImage → ℕ → SessionImage → HostImage
 with_session g place s = record g { sessions = slice_set g.sessions place s }
@@ -96,7 +97,8 @@ not_read = record { number = 1; path = []; member = [] }
 
 abbrev pub install_read : HostImage → List ℕ → List ℕ → Option Chart → Answer
 install_read g name text None = refused g (refusal.BadChart not_read)
-install_read g name text (Some chart) = accepted (record g { charts = g.charts ++ record { name = name; text = text } ∷ [] }) Installed []
+install_read g name text (Some chart) =
+    accepted (record g { charts = g.charts ++ record { name = name; text = text } ∷ [] }) Installed []
 
 abbrev pub install : HostImage → List ℕ → List ℕ → Answer
 install g name text =
@@ -107,7 +109,8 @@ install g name text =
 -- start
 
 abbrev pub fresh_session : List ℕ → List ℕ → SessionImage
-fresh_session session chart = record { state = fresh_state session chart []; queued = []; flagged = false; invoker = None; depth = 1 }
+fresh_session session chart =
+    record { state = fresh_state session chart []; queued = []; flagged = false; invoker = None; depth = 1 }
 
 abbrev pub has_slash : List ℕ → Bool
 has_slash name = list_any (λ b. b == 47) name
@@ -138,7 +141,8 @@ posted_event number name pairs = record {
 -- an event joins a session's external queue under the next number
 abbrev pub queue : HostImage → ℕ → SessionImage → List ℕ → List (List ℕ × Value) → HostImage
 queue g place s name pairs =
-    record (with_session g place (record s { queued = s.queued ++ posted_event (g.events + 1) name pairs ∷ [] })) { events = g.events + 1 }
+    record (with_session g place
+    (record s { queued = s.queued ++ posted_event (g.events + 1) name pairs ∷ [] })) { events = g.events + 1 }
 
 abbrev pub post_to : HostImage → ℕ → SessionImage → Phase → List ℕ → List (List ℕ × Value) → Answer
 post_to g place s (phase.Ended how) name pairs = refused g (refusal.Ended how)
@@ -191,7 +195,8 @@ after_turn s cue t = record s { state = t.after; queued = queue_of_phase t.after
 abbrev pub step_cue : HostImage → ℕ → SessionImage → Option Cue → Answer
 step_cue g place s None = refused g refusal.Idle
 step_cue g place s (Some cue) =
-    let t = turn (chart_named g s.state.chart) s.state cue in accepted (with_session g place (after_turn s cue t)) (Stepped (name_of cue)) t.logs
+    let t = turn (chart_named g s.state.chart) s.state cue
+    in accepted (with_session g place (after_turn s cue t)) (Stepped (name_of cue)) t.logs
 
 abbrev pub step_in : HostImage → ℕ → SessionImage → Phase → Answer
 step_in g place s (phase.Ended how) = refused g (refusal.Ended how)

@@ -47,7 +47,8 @@ has_kid t n = list_any (λ kid. is_tag t (tag_of kid)) (kids n)
 
 -- the first element that passes the test, among those with this text at an attribute
 abbrev pub first_with : (Tag → Bool) → Attribute → Chart → List ℕ → Option Path
-first_with test a c text = find (λ path. test (tag_of (element c path)) && is_text_at a text (element c path)) (elements c)
+first_with test a c text =
+    find (λ path. test (tag_of (element c path)) && is_text_at a text (element c path)) (elements c)
 
 -- the path of a state or history by its id: the first one of that id
 abbrev pub path_named : Chart → List ℕ → Option Path
@@ -56,7 +57,8 @@ path_named c id = first_with is_numbered attribute.Id c id
 -- whether an earlier element that passes the test has the same text
 abbrev pub is_repeated : (Tag → Bool) → Attribute → Chart → Path → Bool
 is_repeated test a c path = test (tag_of (element c path))
-    && option_map_or (λ text. option_map_or (λ first. not (is_same first path)) (first_with test a c text) false) (text_at a (element c path)) false
+    && option_map_or (λ text. option_map_or (λ first. not (is_same first path)) (first_with test a c text) false)
+    (text_at a (element c path)) false
 
 -- 20: the id of an earlier state
 abbrev pub is_double_id : Chart → Path → Bool
@@ -73,7 +75,8 @@ target_ids n t = []
 
 -- 21: a target that is no state's id
 abbrev pub has_unknown_target : Chart → Path → Bool
-has_unknown_target c path = list_any (λ id. is_none (path_named c id)) (target_ids (element c path) (tag_of (element c path)))
+has_unknown_target c path =
+    list_any (λ id. is_none (path_named c id)) (target_ids (element c path) (tag_of (element c path)))
 
 -- the targets that there are
 abbrev pub targets : Chart → List (List ℕ) → List Path
@@ -132,7 +135,8 @@ are_bad_defaults c path paths =
     || not (all_orthogonal c paths)
 
 abbrev pub is_bad_element : Chart → Path → Bool
-is_bad_element c path = option_map_or (λ ids. are_bad_defaults c path (targets c ids)) (default_ids (element c path)) true
+is_bad_element c path =
+    option_map_or (λ ids. are_bad_defaults c path (targets c ids)) (default_ids (element c path)) true
 
 abbrev pub is_bad_initial : Chart → Path → Bool
 is_bad_initial c path =
@@ -162,7 +166,8 @@ is_transition c path = is_tag tag.Transition (tag_of (element c path)) && not (i
     && is_state_or_parallel (tag_of (element c (parent path)))
 
 abbrev pub has_bad_targets : Chart → Path → Bool
-has_bad_targets c path = is_transition c path && not (all_orthogonal c (targets c (words_at attribute.Target (element c path))))
+has_bad_targets c path =
+    is_transition c path && not (all_orthogonal c (targets c (words_at attribute.Target (element c path))))
 
 abbrev pub is_empty_transition : Chart → Path → Bool
 is_empty_transition c path = is_transition c path && not (has attribute.Event (element c path))
@@ -186,8 +191,12 @@ is_among ts t = list_any (is_tag t) ts
 -- the parent's tag, and the child's
 abbrev pub may_hold : Tag → Tag → Bool
 may_hold tag.Scxml t = is_among (tag.DataModel ∷ tag.State ∷ tag.Parallel ∷ tag.Final ∷ []) t
-may_hold tag.State t = is_among (tag.DataModel ∷ tag.OnEntry ∷ tag.OnExit ∷ tag.Transition ∷ tag.Initial ∷ tag.State ∷ tag.Parallel ∷ tag.Final ∷ tag.History ∷ tag.Invoke ∷ []) t
-may_hold tag.Parallel t = is_among (tag.DataModel ∷ tag.OnEntry ∷ tag.OnExit ∷ tag.Transition ∷ tag.State ∷ tag.Parallel ∷ tag.History ∷ tag.Invoke ∷ []) t
+may_hold tag.State t =
+    is_among (tag.DataModel ∷ tag.OnEntry ∷ tag.OnExit ∷ tag.Transition ∷ tag.Initial ∷ tag.State ∷ tag.Parallel
+    ∷ tag.Final ∷ tag.History ∷ tag.Invoke ∷ []) t
+may_hold tag.Parallel t =
+    is_among (tag.DataModel ∷ tag.OnEntry ∷ tag.OnExit ∷ tag.Transition ∷ tag.State ∷ tag.Parallel ∷ tag.History
+    ∷ tag.Invoke ∷ []) t
 may_hold tag.Final t = is_among (tag.OnEntry ∷ tag.OnExit ∷ tag.DoneData ∷ []) t
 may_hold tag.History t = is_tag tag.Transition t
 may_hold tag.Initial t = is_tag tag.Transition t
@@ -238,7 +247,8 @@ is_bad_child c path =
 -- 27: the rounds that a turn may take
 abbrev pub is_bad_limit : Chart → Path → Bool
 is_bad_limit c path = is_root path
-    && option_map_or (λ text. not (nat_le 1 (digits_value 10 text) && nat_le (digits_value 10 text) ROUND_LIMIT)) (text_at attribute.Limit (element c path)) false
+    && option_map_or (λ text. not (nat_le 1 (digits_value 10 text) && nat_le (digits_value 10 text) ROUND_LIMIT))
+    (text_at attribute.Limit (element c path)) false
 
 -- 28: one name for the event, one for the id and one for the delay; data in one way
 abbrev pub is_bad_send_node : Node → Bool
@@ -255,7 +265,8 @@ is_bad_send c path = is_tag tag.Send (tag_of (element c path)) && is_bad_send_no
 -- 29: one name for the id, which no earlier invoke has
 abbrev pub is_bad_invoke : Chart → Path → Bool
 is_bad_invoke c path = is_tag tag.Invoke (tag_of (element c path))
-    && (has attribute.Id (element c path) && has attribute.IdLocation (element c path) || is_repeated (is_tag tag.Invoke) attribute.Id c path)
+    && (has attribute.Id (element c path) && has attribute.IdLocation (element c path)
+    || is_repeated (is_tag tag.Invoke) attribute.Id c path)
 
 -- 30: data, and the null data model
 
@@ -268,7 +279,8 @@ is_system_name text = slice_index text 0 == 95
 
 abbrev pub is_bad_datum : Chart → Path → Bool
 is_bad_datum c path = is_tag tag.DataItem (tag_of (element c path))
-    && (option_map_or is_system_name (text_at attribute.Id (element c path)) false || is_repeated (is_tag tag.DataItem) attribute.Id c path)
+    && (option_map_or is_system_name (text_at attribute.Id (element c path)) false
+    || is_repeated (is_tag tag.DataItem) attribute.Id c path)
 
 abbrev pub is_active : Expr → Bool
 is_active (Active id) = true
@@ -281,7 +293,9 @@ is_test m = option_map_or is_active (code_of m) false
 abbrev pub needs_data : Node → Bool
 needs_data n =
     is_among (tag.DataItem ∷ tag.Assign ∷ tag.ForEach ∷ tag.Param ∷ tag.Content ∷ []) (tag_of n)
-    || list_any (λ a. has a n) (attribute.Expr ∷ attribute.EventExpr ∷ attribute.DelayExpr ∷ attribute.SendIdExpr ∷ attribute.NameList ∷ attribute.IdLocation ∷ [])
+    || list_any (λ a. has a n)
+    (attribute.Expr ∷ attribute.EventExpr ∷ attribute.DelayExpr ∷ attribute.SendIdExpr ∷ attribute.NameList
+    ∷ attribute.IdLocation ∷ [])
     || option_map_or (λ m. not (is_test m)) (given attribute.Cond n) false
 
 abbrev pub is_bad_data : Chart → Path → Bool
@@ -300,7 +314,8 @@ tests = (DOUBLE_ID, is_double_id) ∷ (UNKNOWN_TARGET, has_unknown_target) ∷ (
 
 -- the smallest number at an element
 abbrev pub number_at : Chart → Path → Option ℕ
-number_at c path = option_map (λ (t : ℕ × (Chart → Path → Bool)). t.0) (find (λ (t : ℕ × (Chart → Path → Bool)). t.1 c path) tests)
+number_at c path =
+    option_map (λ (t : ℕ × (Chart → Path → Bool)). t.0) (find (λ (t : ℕ × (Chart → Path → Bool)). t.1 c path) tests)
 
 abbrev pub fault_at : Chart → Path → Option ChartFault
 fault_at c path = option_map (λ number. fault number path []) (number_at c path)

@@ -1,5 +1,5 @@
--- The elements of a chart in document order, their tags and their attributes. SCXML 3.1 to 6.5; that an element is named
--- by its path, the places among child elements that lead to it from the root, is this host's own rule.
+-- The elements of a chart in document order, and their tags. SCXML 3.1 to 6.5; that an element is named by its path,
+-- the places among child elements that lead to it from the root, is this host's own rule.
 use Rattle.std.specs.Prelude.{ℕ, ◌+◌, ◌-◌, ◌==◌, Bool, true, false, ◌&&◌, nat_eq, nat_lt, is_some, Option, Some, None, option_map, option_and_then, unwrap_or, List, [], ◌∷◌, ◌++◌, length, take, find, slice_get}
 use Rattle.std.specs.List.{starts_with}
 use Rattle.std.specs.Option.{option_map_or}

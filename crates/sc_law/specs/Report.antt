@@ -43,7 +43,8 @@ path_text (place ∷ places) = decimal place ++ path_rest places
 
 -- the attribute is told of a faulty expression, which is fault 6
 abbrev pub fault_text : ChartFault → List ℕ
-fault_text f = decimal f.number ++ codes " " ++ path_text f.path ++ (if f.number == 6 then codes " " ++ f.member else [])
+fault_text f =
+    decimal f.number ++ codes " " ++ path_text f.path ++ (if f.number == 6 then codes " " ++ f.member else [])
 
 abbrev pub how_text : How → List ℕ
 how_text (Final payload) = codes "final"
@@ -113,6 +114,8 @@ session_text g s = s.state.session ++ codes " " ++ s.state.chart ++ codes " " ++
 -- the word for how the run ended
 abbrev pub report : ℕ → HostImage → List Entry → List ℕ → List ℕ
 report opened g history end =
-    line (codes "open " ++ decimal opened) ++ entries_text 1 history ++ line (codes "sessions " ++ decimal (length g.sessions))
+    line (codes "open " ++ decimal opened) ++ entries_text 1 history
+    ++ line (codes "sessions " ++ decimal (length g.sessions))
     ++ flat_map (session_text g) g.sessions
-    ++ line (codes "clock " ++ decimal g.clock ++ codes " timers " ++ decimal (length g.timers)) ++ line (codes "end " ++ end)
+    ++ line (codes "clock " ++ decimal g.clock ++ codes " timers " ++ decimal (length g.timers))
+    ++ line (codes "end " ++ end)

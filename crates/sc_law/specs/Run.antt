@@ -44,7 +44,8 @@ pred (suc n) = n
 
 -- the first entry is what comes next, and the others follow from the host, the script and the budget that it leaves
 abbrev pub Continues : Next → HostImage → List Command → ℕ → Entry → (HostImage → List Command → ℕ → Type 0) → Type 0
-Continues (steps session) g cs budget e Rest = Enters g Worker (Step session) e × Rest (answer g e.command).host cs (pred budget)
+Continues (steps session) g cs budget e Rest =
+    Enters g Worker (Step session) e × Rest (answer g e.command).host cs (pred budget)
 Continues (makes c rest) g cs budget e Rest = Enters g (Client 0) c e × Rest (answer g e.command).host rest budget
 Continues over g cs budget e Rest = ⊥
 

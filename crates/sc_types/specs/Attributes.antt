@@ -1,5 +1,6 @@
--- The attributes of an element of a chart. Each has one of three forms: a text as it was given, words, or an expression.
--- SCXML 3.2 to 3.14 and chapters 4 to 6 say which element has which; that they are kept so is this host's own rule.
+-- The attributes of an element of a chart. Each has one of three forms: a text as it was given, words, or an
+-- expression. SCXML 3.2 to 3.14 and chapters 4 to 6 say which element has which; that they are kept so is this host's
+-- own rule.
 use Rattle.std.specs.Prelude.{ℕ, Bool, false, is_some, Option, None, Some, option_map, option_and_then, List, [], find}
 use Rattle.std.specs.Option.{option_map_or}
 use Rattle.std.specs.Str.{bytes_eq}

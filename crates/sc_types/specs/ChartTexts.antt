@@ -64,7 +64,9 @@ fault number path name = record { number = number; path = path; member = name }
 -- unknown members
 
 abbrev pub is_known : Tag → List ℕ → Bool
-is_known tag name = bytes_eq name (codes "tag") || bytes_eq name (codes "kids") || list_any (λ a. bytes_eq name (attribute_text a)) (attributes tag)
+is_known tag name =
+    bytes_eq name (codes "tag") || bytes_eq name (codes "kids")
+    || list_any (λ a. bytes_eq name (attribute_text a)) (attributes tag)
 
 abbrev pub are_known : Tag → Members → Bool
 are_known tag no_members = true
@@ -82,7 +84,8 @@ abbrev pub has_fit_kids : Data → Bool
 has_fit_kids d = option_map_or (λ kids. is_some (as_array kids)) (get (codes "kids") d) true
 
 abbrev pub is_fit : Tag → Data → Attribute → Bool
-is_fit tag d a = option_map_or (λ v. option_map_or (has_form (form_of tag a)) (as_str v) false) (get (attribute_text a) d) true
+is_fit tag d a =
+    option_map_or (λ v. option_map_or (has_form (form_of tag a)) (as_str v) false) (get (attribute_text a) d) true
 
 abbrev pub has_one : Data → Attribute × Attribute → Bool
 has_one d two = if is_given d two.0 then not (is_given d two.1) else is_given d two.1
@@ -94,7 +97,8 @@ has_fit_members tag d = has_fit_kids d && list_all (is_fit tag d) (attributes ta
 -- expressions outside the grammar
 
 abbrev pub is_bad_code : Reading → Tag → Data → Attribute → Bool
-is_bad_code code_of tag d a = is_code (form_of tag a) && option_map_or (λ text. is_none (code_of text)) (text_at (attribute_text a) d) false
+is_bad_code code_of tag d a =
+    is_code (form_of tag a) && option_map_or (λ text. is_none (code_of text)) (text_at (attribute_text a) d) false
 
 -- the first by name
 abbrev pub bad_code : Reading → Tag → Data → Option Attribute
@@ -102,7 +106,8 @@ bad_code code_of tag d = find (is_bad_code code_of tag d) (attributes tag)
 
 -- one state more than a chart may have
 abbrev pub many_fault : ℕ → List ℕ → Tag → Option ChartFault
-many_fault before path tag = if is_numbered tag && nat_le STATE_LIMIT before then Some (fault TOO_MANY path []) else None
+many_fault before path tag =
+    if is_numbered tag && nat_le STATE_LIMIT before then Some (fault TOO_MANY path []) else None
 
 -- what is wrong with an element of a known tag, where so many states stand before it
 abbrev pub tagged_fault : Reading → ℕ → Place → Tag → Option ChartFault
@@ -129,7 +134,8 @@ or_else (Some f) later = Some f
 
 abbrev pub first_fault : Reading → ℕ → List Place → Option ChartFault
 first_fault code_of before [] = None
-first_fault code_of before (p ∷ ps) = or_else (own_fault code_of before p) (first_fault code_of (before + states_at p) ps)
+first_fault code_of before (p ∷ ps) =
+    or_else (own_fault code_of before p) (first_fault code_of (before + states_at p) ps)
 
 -- the levels that are looked at: one more than a chart may have
 abbrev pub levels : ℕ
@@ -164,7 +170,9 @@ member_of code_of form.NameSpace text = None
 member_of code_of f text = Some (Plain text)
 
 abbrev pub member_at : Reading → Tag → Data → Attribute → Option (List ℕ × Member)
-member_at code_of tag d a = option_and_then (λ text. option_map (λ m. (attribute_text a, m)) (member_of code_of (form_of tag a) text)) (text_at (attribute_text a) d)
+member_at code_of tag d a =
+    option_and_then (λ text. option_map (λ m. (attribute_text a, m)) (member_of code_of (form_of tag a) text))
+    (text_at (attribute_text a) d)
 
 abbrev pub members_at : Reading → Tag → Data → List (List ℕ × Member)
 members_at code_of tag d = filter_map (member_at code_of tag d) (attributes tag)
@@ -185,7 +193,8 @@ value_chart code_of d = record { root = tree code_of levels d }
 
 -- what a text spells: a chart, or its first fault
 abbrev pub chart_of : Reading → List ℕ → Result Chart ChartFault
-chart_of code_of text = option_map_or Err (fault_of code_of text) (Ok (value_chart code_of (unwrap_or (json_of text) null)))
+chart_of code_of text =
+    option_map_or Err (fault_of code_of text) (Ok (value_chart code_of (unwrap_or (json_of text) null)))
 
 -- how many states a chart has, with parallels, finals and histories
 

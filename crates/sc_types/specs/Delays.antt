@@ -14,11 +14,14 @@ abbrev pub limited : ℕ → Option ℕ
 limited delay = if nat_le delay DELAY_LIMIT then Some delay else None
 
 abbrev pub milliseconds : List ℕ → Option ℕ
-milliseconds text = if nat_lt 0 (length text) && nat_le (length text) 13 && are_digits text then limited (digits_value 10 text) else None
+milliseconds text =
+    if nat_lt 0 (length text) && nat_le (length text) 13 && are_digits text then limited (digits_value 10 text)
+    else None
 
 -- digits without a fraction
 abbrev pub whole_seconds : List ℕ → Option ℕ
-whole_seconds whole = if nat_lt 0 (length whole) && nat_le (length whole) 13 then limited (digits_value 10 whole * 1000) else None
+whole_seconds whole =
+    if nat_lt 0 (length whole) && nat_le (length whole) 13 then limited (digits_value 10 whole * 1000) else None
 
 -- the digits before the point may be missing; there are one to three behind it
 abbrev pub fraction_seconds : List ℕ → List ℕ → Option ℕ

@@ -97,7 +97,9 @@ attribute_text attribute.Xmlns = codes "xmlns"
 
 -- the attributes that an element may have, ascending by name
 abbrev pub attributes : Tag → List Attribute
-attributes tag.Scxml = attribute.Binding ∷ attribute.DataModel ∷ attribute.Initial ∷ attribute.Limit ∷ attribute.Name ∷ attribute.Version ∷ attribute.Xmlns ∷ []
+attributes tag.Scxml =
+    attribute.Binding ∷ attribute.DataModel ∷ attribute.Initial ∷ attribute.Limit ∷ attribute.Name ∷ attribute.Version
+    ∷ attribute.Xmlns ∷ []
 attributes tag.State = attribute.Id ∷ attribute.Initial ∷ []
 attributes tag.Parallel = attribute.Id ∷ []
 attributes tag.Final = attribute.Id ∷ []
@@ -106,14 +108,18 @@ attributes tag.Transition = attribute.Cond ∷ attribute.Event ∷ attribute.Tar
 attributes tag.DataItem = attribute.Expr ∷ attribute.Id ∷ []
 attributes tag.Content = attribute.Expr ∷ []
 attributes tag.Param = attribute.Expr ∷ attribute.Location ∷ attribute.Name ∷ []
-attributes tag.Invoke = attribute.AutoForward ∷ attribute.Id ∷ attribute.IdLocation ∷ attribute.NameList ∷ attribute.Src ∷ attribute.Type ∷ []
+attributes tag.Invoke =
+    attribute.AutoForward ∷ attribute.Id ∷ attribute.IdLocation ∷ attribute.NameList ∷ attribute.Src ∷ attribute.Type
+    ∷ []
 attributes tag.Raise = attribute.Event ∷ []
 attributes tag.If = attribute.Cond ∷ []
 attributes tag.ElseIf = attribute.Cond ∷ []
 attributes tag.ForEach = attribute.Array ∷ attribute.Index ∷ attribute.Item ∷ []
 attributes tag.Log = attribute.Expr ∷ attribute.Label ∷ []
 attributes tag.Assign = attribute.Expr ∷ attribute.Location ∷ []
-attributes tag.Send = attribute.Delay ∷ attribute.DelayExpr ∷ attribute.Event ∷ attribute.EventExpr ∷ attribute.Id ∷ attribute.IdLocation ∷ attribute.NameList ∷ attribute.Target ∷ attribute.Type ∷ []
+attributes tag.Send =
+    attribute.Delay ∷ attribute.DelayExpr ∷ attribute.Event ∷ attribute.EventExpr ∷ attribute.Id
+    ∷ attribute.IdLocation ∷ attribute.NameList ∷ attribute.Target ∷ attribute.Type ∷ []
 attributes tag.Cancel = attribute.SendId ∷ attribute.SendIdExpr ∷ []
 attributes t = []
 

@@ -163,7 +163,8 @@ mutual
         → Spells (suc room) 0 (Len a) (Word (codes "len") ∷ Sign Open ∷ ts ++ Sign Close ∷ [])
     as_text : {room : ℕ} {a : Expr} {ts : List Token} → Spells room 6 a ts
         → Spells (suc room) 0 (AsText a) (Word (codes "text") ∷ Sign Open ∷ ts ++ Sign Close ∷ [])
-    active : {room : ℕ} {id : List ℕ} → Spells (suc room) 0 (Active id) (Word (codes "In") ∷ Sign Open ∷ Quoted id ∷ Sign Close ∷ [])
+    active : {room : ℕ} {id : List ℕ}
+        → Spells (suc room) 0 (Active id) (Word (codes "In") ∷ Sign Open ∷ Quoted id ∷ Sign Close ∷ [])
     active_name : {room : ℕ} {id : List ℕ} → IsTrue (is_plain_name id)
         → Spells (suc room) 0 (Active id) (Word (codes "In") ∷ Sign Open ∷ Word id ∷ Sign Close ∷ [])
     yes_word : {room : ℕ} → Spells room 0 (Truth true) (Word (codes "true") ∷ [])
@@ -174,7 +175,8 @@ mutual
     one_word : {room : ℕ} (f : EventField) → IsTrue (is_one_word f)
         → Spells room 0 (Field f) (Word (codes "_event") ∷ Sign Dot ∷ Word (field_text f) ∷ [])
     payload_of : {room : ℕ} {name : List ℕ} → IsTrue (is_plain_name name)
-        → Spells room 0 (Field (field.PayloadOf name)) (Word (codes "_event") ∷ Sign Dot ∷ Word (codes "data") ∷ Sign Dot ∷ Word name ∷ [])
+        → Spells room 0 (Field (field.PayloadOf name))
+        (Word (codes "_event") ∷ Sign Dot ∷ Word (codes "data") ∷ Sign Dot ∷ Word name ∷ [])
 
   -- one expression or more, with commas between
   pub data SpellsItems : ℕ → List Expr → List Token → Type 0 where
@@ -189,4 +191,5 @@ pub record IsExpression (text : List ℕ) (e : Expr) : Type 0 where
 
 -- how the texts of expressions are read: each gives the one expression that it spells, and nothing where it spells none
 abbrev pub IsReading : (List ℕ → Option Expr) → Type 0
-IsReading code_of = (text : List ℕ) → MatchOption (code_of text) ((e : Expr) → ¬ IsExpression text e) (IsExpression text)
+IsReading code_of =
+    (text : List ℕ) → MatchOption (code_of text) ((e : Expr) → ¬ IsExpression text e) (IsExpression text)

@@ -104,7 +104,8 @@ are_transition_members states (event ∷ target ∷ more ∷ ms) = false
 
 -- onentry or transition in state
 abbrev pub is_kid : List Node → Tag → Node → Bool
-is_kid states OnEntry n = is_empty (out-Node n).members && list_all (λ log. is_log (out-Node log).tag log) (out-Node n).kids
+is_kid states OnEntry n =
+    is_empty (out-Node n).members && list_all (λ log. is_log (out-Node log).tag log) (out-Node n).kids
 is_kid states Transition n = are_transition_members states (out-Node n).members && is_empty (out-Node n).kids
 is_kid states tag n = false
 
@@ -114,7 +115,8 @@ is_state_among states State n = list_all (λ kid. is_kid states (out-Node kid).t
 is_state_among states tag n = false
 
 abbrev pub are_states : List Node → Bool
-are_states states = not (is_empty states) && have_own_ids states && list_all (λ n. is_state_among states (out-Node n).tag n) states
+are_states states =
+    not (is_empty states) && have_own_ids states && list_all (λ n. is_state_among states (out-Node n).tag n) states
 
 -- scxml
 abbrev pub is_root : Tag → Node → Bool

@@ -31,7 +31,8 @@ put_kids (item d ds) given = put (codes "kids") (array (item d ds)) given
 
 -- an element as a JSON value, from those of its child elements
 abbrev pub data_step : Node-F Data → Data
-data_step n = object (put (codes "tag") (string (tag_text n.tag)) (put_kids (items_of n.kids) (put_members n.members no_members)))
+data_step n = object
+    (put (codes "tag") (string (tag_text n.tag)) (put_kids (items_of n.kids) (put_members n.members no_members)))
 
 unfoldable pub data_of : Node → Data
 data_of n = fold-Node Data data_step n

@@ -94,11 +94,14 @@ abbrev pub read_run : List ℕ → Read
 read_run text = read_token (run_token (take_while is_word_byte text)) (drop (prefix_len is_word_byte text) text)
 
 abbrev pub read_negative : List ℕ → Read
-read_negative text = read_token (negative (number_of (take_while is_word_byte text))) (drop (prefix_len is_word_byte text) text)
+read_negative text =
+    read_token (negative (number_of (take_while is_word_byte text))) (drop (prefix_len is_word_byte text) text)
 
 -- what a backslash and this byte stand for
 abbrev pub escape : ℕ → Option ℕ
-escape b = if b == 92 || b == 39 || b == 34 then Some b else (if b == 110 then Some 10 else (if b == 116 then Some 9 else None))
+escape b =
+    if b == 92 || b == 39 || b == 34 then Some b
+    else (if b == 110 then Some 10 else (if b == 116 then Some 9 else None))
 
 abbrev pub is_quote : ℕ → Bool
 is_quote b = b == 39 || b == 34

@@ -20,7 +20,8 @@ use Rattle.sc_types.specs.declared.value.Value.TheVariants.{Bool as Truth, Int, 
 
 -- an item of a list
 abbrev pub is_item : Value → Bool
-is_item v = elim (out-Value v) [ Value-F.Bool b ↦ false | Value-F.Int n ↦ is_int n | Value-F.Text text ↦ is_text text | Value-F.List items ↦ false ]
+is_item v =
+    elim (out-Value v) [ Value-F.Bool b ↦ false | Value-F.Int n ↦ is_int n | Value-F.Text text ↦ is_text text | Value-F.List items ↦ false ]
 
 abbrev pub fits : Value → Bool
 fits v = elim (out-Value v) [
@@ -34,7 +35,9 @@ fits v = elim (out-Value v) [
 
 -- a byte of a text: `\`, `'`, line feed and tab are escaped
 abbrev pub escaped : ℕ → List ℕ
-escaped b = if b == 92 then codes "\\\\" else (if b == 39 then codes "\\'" else (if b == 10 then codes "\\n" else (if b == 9 then codes "\\t" else b ∷ [])))
+escaped b =
+    if b == 92 then codes "\\\\"
+    else (if b == 39 then codes "\\'" else (if b == 10 then codes "\\n" else (if b == 9 then codes "\\t" else b ∷ [])))
 
 abbrev pub text_literal : List ℕ → List ℕ
 text_literal text = codes "'" ++ flat_map escaped text ++ codes "'"
@@ -80,7 +83,9 @@ abbrev pub listed : List Value → Option Value
 listed items = if nat_le (length items) ITEM_LIMIT then Some (Listed items) else None
 
 abbrev pub truth_of : List ℕ → Option Value
-truth_of word = if bytes_eq word (codes "true") then Some (Truth true) else (if bytes_eq word (codes "false") then Some (Truth false) else None)
+truth_of word =
+    if bytes_eq word (codes "true") then Some (Truth true)
+    else (if bytes_eq word (codes "false") then Some (Truth false) else None)
 
 abbrev pub value_of : List Token → Option Value
 value_of (Word word ∷ []) = truth_of word

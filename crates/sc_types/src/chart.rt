@@ -167,7 +167,7 @@ pub struct ChartFault {
     pub member: Bytes,
 }
 
-/// Why a chart is refused: its first fault, or memory was wanting.
+/// Why a chart is refused: its first fault, or the program was out of memory.
 #[derive(Clone, Debug, Drop, PartialEq, Eq)]
 pub enum ChartRefusal {
     Fault(ChartFault),

@@ -38,16 +38,19 @@ the_items_listed X items = list-listed X items
 
 -- the one field, a `Vec`, and the list that it holds
 abbrev field : Former {0}
-field = via (vec.the_former this Global) Inside (λ X s. s.items) (λ X v. record { items = v }) (λ X s. refl) (λ X v. refl)
+field =
+    via (vec.the_former this Global) Inside (λ X s. s.items) (λ X v. record { items = v }) (λ X s. refl) (λ X v. refl)
 
 -- a change of the items' type changes nothing of how the list lies in memory
 module _ (R S : RattleType) (h : R.Denot → S.Denot) where
-  pub the_places : Alike R S h → Alike (sequence.the_row R) (sequence.the_row S) ((the_former this).map R.Denot S.Denot h)
+  pub the_places : Alike R S h
+      → Alike (sequence.the_row R) (sequence.the_row S) ((the_former this).map R.Denot S.Denot h)
   the_places a = view_places field (list this) view (λ X Y k u. refl) (λ X u. refl) R.Denot S.Denot h
       (sequence.the_row R).coded (sequence.the_row S).coded (invariant R.Denot) (invariant S.Denot)
       (λ u p q. refl) (λ u p q. refl) (λ u e. tt) (λ u e. tt) (over (inside.the_row R)) (over (inside.the_row S))
       (struct_places (inside.the_type R) (inside.the_type S) (vec.mapped h, tt) _ (λ d. refl) refl
       (laid _ _ _ (vec.the_places heap.the_row ghosts R S h a), tt))
 
-  pub the_codes_placed : Recodes R S h → Recodes (sequence.the_row R) (sequence.the_row S) ((the_former this).map R.Denot S.Denot h)
+  pub the_codes_placed : Recodes R S h
+      → Recodes (sequence.the_row R) (sequence.the_row S) ((the_former this).map R.Denot S.Denot h)
   the_codes_placed e items = sym (code_map R.coded.code S.coded.code h (λ x. sym (e x)) items)
