@@ -10,8 +10,8 @@ ghost use Rattle.sc_top.specs.Sayings.{status_of, text_of, check_status, check_t
 use crate::report::lines::put_counted;
 use crate::report::replies::put_fault;
 use crate::saying::Saying;
-use sc_chart_json::read_chart;
 use sc_base::{Bytes, NoMemory, TextWriter};
+use sc_chart_json::read_chart;
 use sc_types::{Chart, ChartFault, ChartRefusal, Node, Tag};
 use sc_valid::{LegalChart, validate};
 use std::alloc::Global;

@@ -5,8 +5,8 @@ ghost use Rattle.sc_law.specs.Runs.{fresh_state, pairs_data};
 ghost use Rattle.sc_law.specs.Flat.Turn.{turn};
 
 use crate::flat::read_flat_chart;
-use sc_law::{Tree, TurnResult, turn};
 use sc_base::{Bytes, NoMemory, Plain, Queue, Sequence, SmallBytes, Word};
+use sc_law::{Tree, TurnResult, turn};
 use sc_types::{
     Chart, ChartFault, ChartImage, Command, Cue, CueName, Data, Delivery, Event, HostImage, Kind,
     LogLine, Node, PairList, Phase, Refusal, Reply, SessionImage, SessionState, Tag,
@@ -412,11 +412,7 @@ fn pairs_data(pairs: &PairList) -> Result<Data, NoMemory>
     Ok(Data::Pairs(pairs.copy()?))
 }
 
-fn posted_event(
-    number: u128,
-    name: &Word,
-    pairs: &PairList,
-) -> Result<Event, NoMemory>
+fn posted_event(number: u128, name: &Word, pairs: &PairList) -> Result<Event, NoMemory>
     ensures { IfOk result (λ e. e ≡ posted_event number name.now pairs.now) }
 {
     Ok(Event {

@@ -16,8 +16,8 @@ use crate::run::run_script;
 use crate::saying::Saying;
 use crate::script_reader::{SCRIPT_LIMIT, ScriptRefusal, read_script};
 use crate::status::Status;
-use sc_dev::{Sink, Source, read_up_to, write_all};
 use sc_base::{Bytes, Failure, NoMemory};
+use sc_dev::{Sink, Source, read_up_to, write_all};
 use sc_types::{CHART_TEXT_LIMIT, Command};
 use std::alloc::Global;
 

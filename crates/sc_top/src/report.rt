@@ -31,11 +31,7 @@ pub(crate) fn report_of(
     let mut out = TextWriter::new(alloc);
     put_counted(&mut out, b"open ", u128::from(opened))?;
     put_entries(&mut out, history)?;
-    put_counted(
-        &mut out,
-        b"sessions ",
-        host.image.sessions.len() as u128,
-    )?;
+    put_counted(&mut out, b"sessions ", host.image.sessions.len() as u128)?;
     put_sessions(&mut out, host)?;
     put_clock(&mut out, &host.image)?;
     out.text("end ")?;

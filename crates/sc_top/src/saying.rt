@@ -3,7 +3,6 @@ ghost use Rattle.sc_top.specs.Sayings.{status_of, text_of};
 ghost use Rattle.sc_top.specs.Statuses.{code};
 
 use crate::status::Status;
-
 use sc_base::Bytes;
 
 /// What the program has to say.

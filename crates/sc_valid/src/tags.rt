@@ -3,7 +3,7 @@ ghost use Rattle.std.specs.List.{list_any};
 ghost use Rattle.sc_law.specs.Nodes.{tag_of, is_tag};
 ghost use Rattle.sc_law.specs.Legality.{is_state_or_parallel, is_content, may_hold, is_single, has_kid};
 
-use sc_types::{Node, Plain, Tag};
+use sc_types::{Node, Tag};
 
 pub(crate) fn is_state_or_parallel(tag: Tag) -> bool
     ensures { result ≡ is_state_or_parallel tag }
@@ -82,7 +82,7 @@ pub(crate) fn is_single(above: Tag, tag: Tag) -> bool
 pub(crate) fn is_tag(tag: Tag, other: Tag) -> bool
     ensures { result ≡ is_tag tag other }
 {
-    tag.same(&other)
+    tag == other
 }
 
 pub(crate) fn is_any(tag: Tag, kids: &[Node]) -> bool

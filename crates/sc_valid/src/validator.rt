@@ -6,11 +6,11 @@ ghost use Rattle.sc_valid.specs.Numbers.{later_number};
 
 use crate::index::ChartIndex;
 use crate::legal::LegalChart;
-use sc_law::{Path, element_paths};
 use sc_base::{Bytes, NoMemory, Sequence};
+use sc_law::{Path, element_paths};
 use sc_types::faults::{
-    BAD_CHILD, BAD_DATA, BAD_HISTORY, BAD_INITIAL, BAD_INVOKE, BAD_LIMIT, BAD_SEND, BAD_TARGETS, DOUBLE_ID,
-    EMPTY_FINALIZE, EMPTY_TRANSITION, UNKNOWN_TARGET,
+    BAD_CHILD, BAD_DATA, BAD_HISTORY, BAD_INITIAL, BAD_INVOKE, BAD_LIMIT, BAD_SEND, BAD_TARGETS,
+    DOUBLE_ID, EMPTY_FINALIZE, EMPTY_TRANSITION, UNKNOWN_TARGET,
 };
 use sc_types::{Chart, ChartFault, ChartRefusal};
 use std::alloc::Global;

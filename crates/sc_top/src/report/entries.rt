@@ -5,8 +5,8 @@ ghost use Rattle.sc_law.specs.Report.{who_text, reply_text, log_text, delivery_t
 
 use crate::report::lines::put_command;
 use crate::report::replies::{put_reply, put_who};
-use sc_expr::{put_text, put_value};
 use sc_base::{NoMemory, TextWriter};
+use sc_expr::{put_text, put_value};
 use sc_types::{Command, Delivery, Entry, LogLine, Reply, Who};
 
 fn put_log(out: &mut TextWriter, log: &LogLine) -> Result<(), NoMemory>
@@ -87,10 +87,7 @@ fn put_entry(out: &mut TextWriter, number: usize, entry: &Entry) -> Result<(), N
     put_deliveries(out, entry.sent.slice())
 }
 
-pub(crate) fn put_entries(
-    out: &mut TextWriter,
-    history: &[Entry],
-) -> Result<(), NoMemory>
+pub(crate) fn put_entries(out: &mut TextWriter, history: &[Entry]) -> Result<(), NoMemory>
     ensures { OnOk result (out.new ≡ out.old ++ entries_text 1 history.now) }
 {
     for (place, entry) in history.iter().enumerate() {

@@ -2,16 +2,12 @@ ghost use Rattle.std.specs.Prelude.{◌≡◌, ◌++◌, [], ◌∷◌, OnOk, de
 ghost use Rattle.std.specs.List.{flat_map};
 ghost use Rattle.sc_law.specs.Lines.{line, pair_text, command_text};
 
-use sc_expr::put_value;
 use sc_base::{NoMemory, PlainName, TextWriter};
+use sc_expr::put_value;
 use sc_types::{Command, Value};
 
 /// A line of a word and a number.
-pub(crate) fn put_counted(
-    out: &mut TextWriter,
-    word: &[u8],
-    number: u128,
-) -> Result<(), NoMemory>
+pub(crate) fn put_counted(out: &mut TextWriter, word: &[u8], number: u128) -> Result<(), NoMemory>
     ensures { OnOk result (out.new ≡ out.old ++ line (word.now ++ decimal number)) }
 {
     out.bytes(word)?;
@@ -46,10 +42,7 @@ fn put_named(out: &mut TextWriter, word: &[u8], name: &[u8]) -> Result<(), NoMem
     out.text(" ")
 }
 
-pub(crate) fn put_command(
-    out: &mut TextWriter,
-    command: &Command,
-) -> Result<(), NoMemory>
+pub(crate) fn put_command(out: &mut TextWriter, command: &Command) -> Result<(), NoMemory>
     ensures { OnOk result (out.new ≡ out.old ++ command_text command.now) }
 {
     match command {

@@ -38,10 +38,7 @@ fn put_path(out: &mut TextWriter, path: &[u32]) -> Result<(), NoMemory>
     }
 }
 
-pub(crate) fn put_fault(
-    out: &mut TextWriter,
-    fault: &ChartFault,
-) -> Result<(), NoMemory>
+pub(crate) fn put_fault(out: &mut TextWriter, fault: &ChartFault) -> Result<(), NoMemory>
     ensures { OnOk result (out.new ≡ out.old ++ fault_text fault.now) }
 {
     out.number(u128::from(fault.number))?;

@@ -10,17 +10,13 @@ ghost use Rattle.sc_top.specs.Held.{IsHeld};
 use crate::host::Host;
 use crate::report::lines::put_counted;
 use crate::report::replies::put_how;
+use sc_base::{NoMemory, PlainName, TextWriter};
 use sc_expr::put_value;
 use sc_law::Tree;
-use sc_base::{NoMemory, PlainName, TextWriter};
 use sc_types::{Phase, SessionImage, SessionState, Value};
 
 /// A state of this tree by its id, or by its number where it has none.
-fn put_state(
-    out: &mut TextWriter,
-    tree: Option<&Tree>,
-    state: u32,
-) -> Result<(), NoMemory>
+fn put_state(out: &mut TextWriter, tree: Option<&Tree>, state: u32) -> Result<(), NoMemory>
     ensures { OnOk result (out.new
         ≡ out.old ++ state_text (unwrap_or (option_copied tree.entry) bare_chart) state) }
 {
@@ -41,11 +37,7 @@ fn id_in<'t>(tree: Option<&'t Tree>, state: u32) -> Option<&'t [u8]>
     tree?.id_of(state)
 }
 
-fn put_ids(
-    out: &mut TextWriter,
-    tree: Option<&Tree>,
-    states: &[u32],
-) -> Result<(), NoMemory>
+fn put_ids(out: &mut TextWriter, tree: Option<&Tree>, states: &[u32]) -> Result<(), NoMemory>
     ensures { OnOk result (out.new
         ≡ out.old ++ flat_map (state_text (unwrap_or (option_copied tree.entry) bare_chart)) states.now) }
 {
@@ -55,10 +47,7 @@ fn put_ids(
     Ok(())
 }
 
-fn put_datum(
-    out: &mut TextWriter,
-    datum: &(PlainName, Option<Value>),
-) -> Result<(), NoMemory>
+fn put_datum(out: &mut TextWriter, datum: &(PlainName, Option<Value>)) -> Result<(), NoMemory>
     ensures { OnOk result (out.new ≡ out.old ++ datum_text datum.now) }
 {
     out.text(". ")?;
@@ -70,10 +59,7 @@ fn put_datum(
     out.end_line()
 }
 
-fn put_data(
-    out: &mut TextWriter,
-    values: &[(PlainName, Option<Value>)],
-) -> Result<(), NoMemory>
+fn put_data(out: &mut TextWriter, values: &[(PlainName, Option<Value>)]) -> Result<(), NoMemory>
     ensures { OnOk result (out.new ≡ out.old ++ flat_map datum_text values.now) }
 {
     for datum in values {
@@ -83,11 +69,7 @@ fn put_data(
 }
 
 /// The active states of a session.
-fn put_states(
-    out: &mut TextWriter,
-    host: &Host,
-    state: &SessionState,
-) -> Result<(), NoMemory>
+fn put_states(out: &mut TextWriter, host: &Host, state: &SessionState) -> Result<(), NoMemory>
     requires { IsHeld host.now }
     ensures { OnOk result (out.new
         ≡ out.old
@@ -97,11 +79,7 @@ fn put_states(
     put_ids(out, tree, state.configuration.slice())
 }
 
-fn put_active(
-    out: &mut TextWriter,
-    host: &Host,
-    state: &SessionState,
-) -> Result<(), NoMemory>
+fn put_active(out: &mut TextWriter, host: &Host, state: &SessionState) -> Result<(), NoMemory>
     requires { IsHeld host.now }
     ensures { OnOk result (out.new
         ≡ out.old
@@ -113,11 +91,7 @@ fn put_active(
     out.end_line()
 }
 
-fn put_live(
-    out: &mut TextWriter,
-    host: &Host,
-    session: &SessionImage,
-) -> Result<(), NoMemory>
+fn put_live(out: &mut TextWriter, host: &Host, session: &SessionImage) -> Result<(), NoMemory>
     requires { IsHeld host.now }
     ensures { OnOk result (out.new ≡ out.old ++ live_text host.now.image session.now) }
 {
@@ -126,11 +100,7 @@ fn put_live(
     put_counted(out, b"# ", session.queued.len() as u128)
 }
 
-fn put_phase(
-    out: &mut TextWriter,
-    host: &Host,
-    session: &SessionImage,
-) -> Result<(), NoMemory>
+fn put_phase(out: &mut TextWriter, host: &Host, session: &SessionImage) -> Result<(), NoMemory>
     requires { IsHeld host.now }
     ensures { OnOk result (out.new
         ≡ out.old ++ phase_text host.now.image session.now session.now.state.phase) }
@@ -145,11 +115,7 @@ fn put_phase(
     }
 }
 
-fn put_session(
-    out: &mut TextWriter,
-    host: &Host,
-    session: &SessionImage,
-) -> Result<(), NoMemory>
+fn put_session(out: &mut TextWriter, host: &Host, session: &SessionImage) -> Result<(), NoMemory>
     requires { IsHeld host.now }
     ensures { OnOk result (out.new ≡ out.old ++ session_text host.now.image session.now) }
 {
