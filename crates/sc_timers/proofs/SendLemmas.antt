@@ -133,12 +133,6 @@ length-sends at (k ∷ ks) f =
     let first = full_some (at k) f.0 in
     ap length (sends-cons at k ks first.0 first.1) ∙ ap suc (length-sends at ks f.1)
 
--- each key has a send under it
-pub full-at : (at : ℕ → Option TimerImage) (ks : List ℕ) (i : ℕ) → AreFull at ks → i < length ks → IsSome (at (get_or ks i 0))
-full-at at [] i f b = absurd (omega arith)
-full-at at (k ∷ ks) zero f b = f.0
-full-at at (k ∷ ks) (suc i) f b = full-at at ks i f.1 (omega arith)
-
 -- ---- other sends at the keys
 
 -- a change under another key leaves the sends as they are
@@ -212,11 +206,6 @@ added at new_at ks p k t kept vacant e others older place =
       };
       sends = sends;
     }
-
--- an empty slot is not full
-pub none_full : (o : Option TimerImage) → None ≡ o → IsSome o → ⊥
-none_full None e s = cc
-none_full (Some t) e s = none_some t e
 
 -- ---- the first send
 

@@ -180,8 +180,9 @@ impl Timers {
             self.old.sends }
         ensures spare { self.new.spare ≡ self.old.spare }
     {
-        let count = remove_sends(&self.order, &mut self.sends, pick);
+        let before = self.order.len();
+        remove_sends(&self.order, &mut self.sends, pick);
         keep_full(&mut self.order, &self.sends);
-        count
+        (before - self.order.len()) as u64
     }
 }

@@ -8,7 +8,7 @@ use Rattle.sc_timers.proofs.order.remove_sends.Given as goal
 
 abbrev pub invariant-loop-place : goal.invariant-loop-place
 invariant-loop-place l = record {
-  sweeps : Sweeps (is_picked l.pick.session.now (option_map (λ (x : Bor (List ℕ)). x.now) l.pick.id)) (send_at l.initial.sends) (send_at l.sends) l.order.items l.place l.count;
+  sweeps : Sweeps (is_picked l.pick.session.now (option_map (λ (x : Bor (List ℕ)). x.now) l.pick.id)) (send_at l.initial.sends) (send_at l.sends) l.order.items l.place;
   len : slab_len l.sends ≤ slab_len l.initial.sends;
   capacity : l.sends.capacity ≡ l.initial.sends.capacity;
 }
