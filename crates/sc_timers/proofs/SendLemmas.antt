@@ -23,9 +23,6 @@ before-trans : (a b c : TimerImage) → is_before a b ≡ true → is_before b c
 before-trans a b c h k = grind (arith, nat_tests)
 
 -- t is newer than s
-newer-before : (s t : TimerImage) → s.number < t.number → s.due ≤ t.due → is_before s t ≡ true
-newer-before s t h k = grind (arith, nat_tests)
-
 newer-not_before : (s t : TimerImage) → s.number < t.number → s.due ≤ t.due → is_before t s ≡ false
 newer-not_before s t h k = grind (arith, nat_tests)
 

@@ -1,9 +1,10 @@
-ghost use Rattle.std.specs.Prelude.{◌≡◌, ◌-◌, ◌<◌, ◌≤◌, ℕ, List, Option, Some, OnOk, OnErr, IfNone, IfSome, All, [], ◌∷◌, map, length, not, filter, count_by, slice_get, slice_index};
-ghost use Rattle.std.specs.Option.{option_copied, option_map};
-ghost use Rattle.sc_types.specs.Sends.{with_send, is_of, is_send, is_picked, IsBeforeAll, IsInDueOrder};
-ghost use Rattle.sc_timers.specs.Order.{IsPlaceAfter};
+ghost use Rattle.std.specs.Prelude.{◌≡◌, ◌-◌, ◌<◌, ◌≤◌, ℕ, List, [], ◌∷◌, map, length, not, filter, count_by, slice_get, slice_index};
+ghost use Rattle.std.specs.Prelude.{Option, Some, OnOk, OnErr, IfNone, IfSome, All};
+ghost use Rattle.std.specs.Option.{option_copied};
+ghost use Rattle.sc_types.specs.Sends.{with_send, is_of, is_send, IsBeforeAll, IsInDueOrder};
+ghost use Rattle.sc_timers.specs.Order.{picks, IsPlaceAfter};
 
-use crate::order::{keep_full, remove_sends};
+use crate::removal::{keep_full, remove_sends};
 use crate::timed::{Pick, Timed};
 use sc_base::NoMemory;
 use slab::Slab;
@@ -173,11 +174,8 @@ impl Timers {
 
     // Removes the picked sends, and counts them.
     fn remove_picked(&mut self, pick: Pick<'_>) -> u64
-        ensures count { result
-            ≡ count_by (is_picked pick.entry.session.now (option_map (λ x. x.now) pick.entry.id)) self.old.sends }
-        ensures sends { self.new.sends
-            ≡ filter (λ s. not (is_picked pick.entry.session.now (option_map (λ x. x.now) pick.entry.id) s))
-            self.old.sends }
+        ensures count { result ≡ count_by (picks pick.entry) self.old.sends }
+        ensures sends { self.new.sends ≡ filter (λ s. not (picks pick.entry s)) self.old.sends }
         ensures spare { self.new.spare ≡ self.old.spare }
     {
         let before = self.order.len();

@@ -1,17 +1,14 @@
 ghost use Rattle.std.specs.Prelude.{◌≡◌, ◌≤◌, filter, is_some};
 ghost use Rattle.std.specs.VecDeque.{deque_capacity, deque_len};
-ghost use Rattle.std.specs.Option.{option_map};
 ghost use Rattle.slab.specs.Slab.{get as send_at, slab_len, Updates};
-ghost use Rattle.sc_types.specs.Sends.{is_picked};
-ghost use Rattle.sc_timers.specs.Order.{unless, AreSwept};
+ghost use Rattle.sc_timers.specs.Order.{picks, unless, AreSwept};
 
 use crate::timed::{Pick, Timed, is_picked};
 use slab::Slab;
 use std::collections::VecDeque;
 
 fn remove_send(sends: &mut Slab<Timed>, key: usize, pick: Pick<'_>)
-    ensures updates { Updates sends.old sends.new key
-        (unless (is_picked pick.entry.session.now (option_map (λ x. x.now) pick.entry.id)) (send_at sends.old key)) }
+    ensures updates { Updates sends.old sends.new key (unless (picks pick.entry) (send_at sends.old key)) }
     ensures len { slab_len sends.new ≤ slab_len sends.old }
     ensures capacity { sends.new.capacity ≡ sends.old.capacity }
 {
@@ -24,8 +21,7 @@ fn remove_send(sends: &mut Slab<Timed>, key: usize, pick: Pick<'_>)
 
 // Takes the picked sends out of the slab, and leaves their keys.
 pub fn remove_sends(order: &VecDeque<usize>, sends: &mut Slab<Timed>, pick: Pick<'_>)
-    ensures swept { AreSwept (is_picked pick.entry.session.now (option_map (λ x. x.now) pick.entry.id))
-        (send_at sends.old) (send_at sends.new) order.now.items }
+    ensures swept { AreSwept (picks pick.entry) (send_at sends.old) (send_at sends.new) order.now.items }
     ensures len { slab_len sends.new ≤ slab_len sends.old }
     ensures capacity { sends.new.capacity ≡ sends.old.capacity }
 {
