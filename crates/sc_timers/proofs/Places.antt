@@ -1,6 +1,5 @@
 -- The search for the place of a new send among the dues.
 use Rattle.std.proofs.Common.{ℕ, ◌+◌, ◌<◌, ◌≤◌, List, length, get_or, arith}
-use Rattle.sc_timers.specs.Order.{IsPlaceAfter}
 
 -- each is at most those after it
 abbrev pub AreSorted : List ℕ → Type 0
@@ -31,12 +30,4 @@ narrows-high dues d low high middle s n h l e = record {
   within = omega (arith, n.within);
   before = n.before;
   behind = λ i a b. omega (arith, s middle i a b);
-}
-
--- once the bounds meet, they are the place
-pub narrows-done : (dues : List ℕ) (d low high : ℕ) → Narrows dues d low high → high ≤ low → IsPlaceAfter dues d low
-narrows-done dues d low high n h = record {
-  within = omega (arith, n.order, n.within);
-  before = n.before;
-  behind = λ i a b. n.behind i (omega arith) b;
 }

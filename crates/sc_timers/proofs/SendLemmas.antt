@@ -1,8 +1,7 @@
 -- Sends in due order, and the keys under which they are kept.
-use Rattle.std.proofs.Common.{◌≡◌, ◌≢◌, ℕ, ◌<◌, ◌≤◌, zero, suc, nat_le, Bool, true, false, cond, Option, None, Some, map, List, [], ◌∷◌, length, get_or, drop, refl, arith, ap, ap₂, sym, ◌∙◌, subst}
+use Rattle.std.proofs.Common.{◌≡◌, ◌≢◌, ℕ, ◌<◌, ◌≤◌, zero, suc, Bool, true, false, cond, Option, None, Some, map, List, [], ◌∷◌, length, get_or, drop, refl, arith, ap, ap₂, sym, ◌∙◌, subst}
 use Rattle.std.proofs.lemmas.Bool.Decides.{nat_tests}
-use Rattle.std.specs.Prelude.{All, IsSome, IfSome, insert, slice_get}
-use Rattle.std.specs.Bool.{MatchBool}
+use Rattle.std.specs.Prelude.{All, IsSome, insert, slice_get}
 use Rattle.std.specs.List.{cons_option}
 use Rattle.sc_types.specs.declared.host.TimerImage.{TimerImage}
 use Rattle.sc_timers.specs.Timers.{TimersOf}
@@ -24,9 +23,6 @@ before-trans : (a b c : TimerImage) → is_before a b ≡ true → is_before b c
 before-trans a b c h k = grind (arith, nat_tests)
 
 -- t is newer than s
-newer-before : (s t : TimerImage) → s.number < t.number → s.due ≤ t.due → is_before s t ≡ true
-newer-before s t h k = grind (arith, nat_tests)
-
 newer-not_before : (s t : TimerImage) → s.number < t.number → s.due ≤ t.due → is_before t s ≡ false
 newer-not_before s t h k = grind (arith, nat_tests)
 
@@ -134,18 +130,6 @@ length-sends at (k ∷ ks) f =
     let first = full_some (at k) f.0 in
     ap length (sends-cons at k ks first.0 first.1) ∙ ap suc (length-sends at ks f.1)
 
--- each key has a send under it
-pub full-at : (at : ℕ → Option TimerImage) (ks : List ℕ) (i : ℕ) → AreFull at ks → i < length ks → IsSome (at (get_or ks i 0))
-full-at at [] i f b = absurd (omega arith)
-full-at at (k ∷ ks) zero f b = f.0
-full-at at (k ∷ ks) (suc i) f b = full-at at ks i f.1 (omega arith)
-
--- the due at a place is that of the send there
-pub due-at : (ss : List TimerImage) (i : ℕ) (t : TimerImage) → slice_get ss i ≡ Some t → get_or (dues_of ss) i 0 ≡ t.due
-due-at [] i t e = cc
-due-at (s ∷ ss) zero t e = (let same : s ≡ t = cc in ap (λ (x : TimerImage). x.due) same)
-due-at (s ∷ ss) (suc i) t e = due-at ss i t e
-
 -- ---- other sends at the keys
 
 -- a change under another key leaves the sends as they are
@@ -220,11 +204,6 @@ added at new_at ks p k t kept vacant e others older place =
       sends = sends;
     }
 
--- an empty slot is not full
-pub none_full : (o : Option TimerImage) → None ≡ o → IsSome o → ⊥
-none_full None e s = cc
-none_full (Some t) e s = none_some t e
-
 -- ---- the first send
 
 later_due : (now : ℕ) (t : TimerImage) (ss : List TimerImage) → IsBeforeAll t ss → now < t.due → All (λ (s : TimerImage). now < s.due) ss
@@ -232,19 +211,18 @@ later_due now t [] a h k d b = absurd (omega arith)
 later_due now t (s ∷ ss) a h zero d b = (let first : t.due ≤ s.due = before-due t s a.0 in omega arith)
 later_due now t (s ∷ ss) a h (suc k) d b = later_due now t ss a.1 h k d (omega arith)
 
-all-first : (now : ℕ) (s : TimerImage) (ss : List TimerImage) → IsInDueOrder (s ∷ ss) → now < s.due → All (λ (x : TimerImage). now < x.due) (s ∷ ss)
-all-first now s ss o h zero d b = h
-all-first now s ss o h (suc k) d b = later_due now s ss o.0 h k d (omega arith)
-
 -- where the first send is not due, none is
-pub none-due : (now : ℕ) (ss : List TimerImage) → IsInDueOrder ss → now < get_or (dues_of ss) 0 0 → All (λ (s : TimerImage). now < s.due) ss
-none-due now [] o h = absurd (omega arith)
-none-due now (s ∷ ss) o h = all-first now s ss o h
+pub none-due : (now : ℕ) (t : TimerImage) (ss : List TimerImage) → IsInDueOrder ss → Some t ≡ slice_get ss 0 → now < t.due → All (λ (s : TimerImage). now < s.due) ss
+none-due now t [] o e h = cc
+none-due now t (s ∷ ss) o e h = (let same : t ≡ s = cc in first (subst (λ (x : TimerImage). now < x.due) same h))
+  where
+    first : now < s.due → All (λ (x : TimerImage). now < x.due) (s ∷ ss)
+    first h zero d b = h
+    first h (suc k) d b = later_due now s ss o.0 h k d (omega arith)
 
 pub record Taken (at new_at : ℕ → Option TimerImage) (ks : List ℕ) (t : TimerImage) : Type 0 where
   pub kept : AreKept new_at (drop 1 ks)
   pub sends : sends_at at ks ≡ t ∷ sends_at new_at (drop 1 ks)
-  pub ahead : IsBeforeAll t (sends_at new_at (drop 1 ks))
 
 -- removing the first key and its send gives the rest of the sends, still kept in order
 pub taken : (at new_at : ℕ → Option TimerImage) (ks : List ℕ) (k : ℕ) (t : TimerImage) → AreKept at ks → 0 < length ks → k ≡ get_or ks 0 0 → at k ≡ Some t
@@ -262,12 +240,7 @@ taken at new_at (x ∷ ks) k t kept h e s others =
         ordered = subst IsInDueOrder (sym rest) ordered.1;
       };
       sends = sends ∙ ap (λ ss. t ∷ ss) (sym rest);
-      ahead = subst (IsBeforeAll t) (sym rest) ordered.0;
     }
-
--- what holds of a value holds of an answer that has it
-pub some_is : (r : Option TimerImage) (t : TimerImage) (P : TimerImage → Type 0) → r ≡ Some t → P t → IfSome r P
-some_is r t P e p = (let Q : Option TimerImage → Type 0 = λ o. IfSome o P in subst Q (sym e) p)
 
 -- ---- the timers
 
@@ -277,11 +250,3 @@ timers ss spare = record { sends = ss; spare = spare }
 -- timers with equal sends and equal room are equal
 pub same_timers : (ss ts : List TimerImage) (spare : ℕ) → ss ≡ ts → timers ss spare ≡ timers ts spare
 same_timers ss ts spare e = ap (λ xs. timers xs spare) e
-
--- a test of two numbers decides between what follows from either outcome
-pub told-by : (P Q : Type 0) (d now : ℕ) → (d ≤ now → P) → (now < d → Q) → MatchBool (nat_le d now) P Q
-told-by P Q d now p q = by (nat_le d now) refl
-  where
-    by : (v : Bool) → nat_le d now ≡ v → MatchBool v P Q
-    by true e = p (grind (arith, nat_tests))
-    by false e = q (grind (arith, nat_tests))

@@ -1,8 +1,11 @@
 -- How the sends are kept: in a slab, and their keys in due order.
 use Rattle.std.specs.Prelude.{◌≡◌, ◌≢◌, ℕ, ◌<◌, ◌≤◌, length, slice_index, Bool, if◌then◌else◌, Option, None, Some, IsSome, List, [], ◌∷◌}
+use Rattle.std.specs.Borrow.{Bor}
 use Rattle.std.specs.List.{filter_map}
+use Rattle.std.specs.Option.{option_map}
 use Rattle.sc_types.specs.declared.host.TimerImage.{TimerImage}
-use Rattle.sc_types.specs.Sends.{IsInDueOrder}
+use Rattle.sc_types.specs.Sends.{is_picked, IsInDueOrder}
+use Rattle.sc_timers.specs.declared.timed.Pick.{Pick}
 
 -- the sends at the keys
 abbrev pub sends_at : (ℕ → Option TimerImage) → List ℕ → List TimerImage
@@ -34,6 +37,10 @@ pub record IsPlaceAfter (dues : List ℕ) (d place : ℕ) : Type 0 where
   pub within : place ≤ length dues
   pub before : (i : ℕ) → i < place → slice_index dues i ≤ d
   pub behind : (i : ℕ) → place ≤ i → i < length dues → d < slice_index dues i
+
+-- whether a send is one of those that are picked
+abbrev pub picks : Pick → TimerImage → Bool
+picks p = is_picked p.session.now (option_map (λ (x : Bor (List ℕ)). x.now) p.id)
 
 -- what is left of a send once those that pass the test are gone
 abbrev pub unless : (TimerImage → Bool) → Option TimerImage → Option TimerImage

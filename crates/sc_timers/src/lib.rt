@@ -3,7 +3,7 @@
 //! Only `reserve` takes memory.
 #![tactic(auto)]
 
-mod order;
+mod removal;
 mod timed;
 mod timers;
 

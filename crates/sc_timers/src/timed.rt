@@ -1,6 +1,5 @@
-ghost use Rattle.std.specs.Prelude.{◌≡◌, List, ℕ, Option, map};
-ghost use Rattle.std.specs.Option.{option_map};
-ghost use Rattle.sc_types.specs.Sends.{is_of, is_picked};
+ghost use Rattle.std.specs.Prelude.{◌≡◌};
+ghost use Rattle.sc_timers.specs.Order.{picks};
 
 pub use sc_types::TimerImage as Timed;
 
@@ -12,7 +11,7 @@ pub struct Pick<'a> {
 }
 
 pub fn is_picked(pick: Pick<'_>, send: &Timed) -> bool
-    ensures { result ≡ is_picked pick.entry.session.now (option_map (λ x. x.now) pick.entry.id) send.now }
+    ensures { result ≡ picks pick.entry send.now }
 {
     if send.session.bytes() != pick.session {
         return false;

@@ -1,8 +1,10 @@
-ghost use Rattle.std.specs.Prelude.{◌≡◌, ◌-◌, ◌<◌, ◌≤◌, ℕ, Option, Some, OnOk, OnErr, IfNone, IfSome, All, [], ◌∷◌, not, filter, count_by, slice_get};
+ghost use Rattle.std.specs.Prelude.{◌≡◌, ◌-◌, ◌<◌, ◌≤◌, ℕ, List, [], ◌∷◌, map, length, not, filter, count_by, slice_get, slice_index};
+ghost use Rattle.std.specs.Prelude.{Option, Some, OnOk, OnErr, IfNone, IfSome, All};
 ghost use Rattle.std.specs.Option.{option_copied};
 ghost use Rattle.sc_types.specs.Sends.{with_send, is_of, is_send, IsBeforeAll, IsInDueOrder};
+ghost use Rattle.sc_timers.specs.Order.{picks, IsPlaceAfter};
 
-use crate::order::{is_due, place_after, remove_picked, send_in, take_first};
+use crate::removal::{keep_full, remove_sends};
 use crate::timed::{Pick, Timed};
 use sc_base::NoMemory;
 use slab::Slab;
@@ -72,7 +74,7 @@ impl Timers {
         requires newest { All (λ s. s.number < send.number) self.old.sends }
         ensures { self.new ≡ record { sends = with_send send self.old.sends; spare = self.old.spare - 1 } }
     {
-        let place = place_after(&self.order, &self.sends, send.due);
+        let place = self.place_after(send.due);
         let key = self.sends.insert_reserved(send);
         match self.order.insert(place, key) {
             Ok(()) => {}
@@ -91,7 +93,7 @@ impl Timers {
             session,
             id: Some(id),
         };
-        remove_picked(&mut self.order, &mut self.sends, pick)
+        self.remove_picked(pick)
     }
 
     /// Removes all sends of a session, and counts them.
@@ -101,7 +103,7 @@ impl Timers {
         ensures spare { self.new.spare ≡ self.old.spare }
     {
         let pick = Pick { session, id: None };
-        remove_picked(&mut self.order, &mut self.sends, pick)
+        self.remove_picked(pick)
     }
 
     /// Takes the first send out where it is due by now.
@@ -111,10 +113,10 @@ impl Timers {
         ensures earliest { IfSome result (λ t. IsBeforeAll t self.new.sends) }
         ensures spare { self.new.spare ≡ self.old.spare }
     {
-        if !is_due(&self.order, &self.sends, now) {
+        if now < self.get(0)?.due {
             return None;
         }
-        Some(take_first(&mut self.order, &mut self.sends))
+        Some(self.take_first())
     }
 
     /// The send at a place of the due order, counted from 0.
@@ -125,6 +127,60 @@ impl Timers {
         if place >= self.order.len() {
             return None;
         }
-        Some(send_in(&self.order, &self.sends, place))
+        self.sends.get(self.order[place])
+    }
+
+    fn due_at(&self, place: usize) -> u64
+        requires { place < length self.now.sends }
+        ensures { result ≡ slice_index (map (λ s. s.due) self.now.sends) place }
+    {
+        match self.get(place) {
+            Some(send) => send.due,
+            None => unreachable!(),
+        }
+    }
+
+    // Where a send stands that is due then and made after all others: after those that are due no later.
+    fn place_after(&self, due: u64) -> usize
+        ensures { IsPlaceAfter (map (λ s. s.due) self.now.sends) due result }
+    {
+        let mut low = 0;
+        let mut high = self.order.len();
+        while low < high {
+            let middle = low + (high - low) / 2;
+            if self.due_at(middle) <= due {
+                low = middle + 1;
+            } else {
+                high = middle;
+            }
+        }
+        low
+    }
+
+    fn take_first(&mut self) -> Timed
+        requires { 0 < length self.old.sends }
+        ensures first { self.old.sends ≡ result ∷ self.new.sends }
+        ensures spare { self.new.spare ≡ self.old.spare }
+    {
+        let key = match self.order.pop_front() {
+            Some(key) => key,
+            None => unreachable!(),
+        };
+        match self.sends.try_remove(key) {
+            Some(send) => send,
+            None => unreachable!(),
+        }
+    }
+
+    // Removes the picked sends, and counts them.
+    fn remove_picked(&mut self, pick: Pick<'_>) -> u64
+        ensures count { result ≡ count_by (picks pick.entry) self.old.sends }
+        ensures sends { self.new.sends ≡ filter (λ s. not (picks pick.entry s)) self.old.sends }
+        ensures spare { self.new.spare ≡ self.old.spare }
+    {
+        let before = self.order.len();
+        remove_sends(&self.order, &mut self.sends, pick);
+        keep_full(&mut self.order, &self.sends);
+        (before - self.order.len()) as u64
     }
 }
