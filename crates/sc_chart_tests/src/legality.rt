@@ -2,8 +2,8 @@ use crate::charts::told;
 use crate::legality_of_content::{CHILDREN, DATA, SENDS};
 use crate::legality_of_states::{HISTORIES, IDS, INITIALS, TRANSITIONS};
 use crate::recipes::large;
-use sc_chart_json::read_chart;
-use sc_types::{Chart, ChartRefusal, Plain};
+use sc_chart_json::{print_chart, read_chart};
+use sc_types::{Chart, ChartRefusal};
 use sc_valid::validate;
 use std::alloc::Global;
 use std::test::Fail;
@@ -283,7 +283,8 @@ fn each_element_may_hold_its_child_elements_and_no_others(rt: HostRuntime) -> Re
 fn a_legal_chart_is_the_chart_that_was_given(rt: HostRuntime) -> Result<(), Fail> {
     let given = read_chart(rt.alloc(), WHOLE.as_bytes())?;
     let legal = validate(rt.alloc(), read_chart(rt.alloc(), WHOLE.as_bytes())?)?;
-    assert!(rt; legal.chart().same(&given));
-    assert!(rt; legal.into_chart().same(&given));
+    let printed = print_chart(rt.alloc(), &given)?;
+    assert!(rt; print_chart(rt.alloc(), legal.chart())? == printed);
+    assert!(rt; print_chart(rt.alloc(), &legal.into_chart())? == printed);
     Ok(())
 }

@@ -1,4 +1,4 @@
-use sc_types::{Name, Plain, PlainName, Unfit, Word, is_plain_name};
+use sc_base::{Name, Plain, PlainName, Unfit, Word, is_plain_name};
 use std::test::Fail;
 
 #[test]
@@ -7,7 +7,7 @@ fn a_name_may_have_a_hash_and_a_word_may_not(rt: HostRuntime) -> Result<(), Fail
     let name = Name::of(rt.alloc(), b"a#")?;
     let copy = name.copy()?;
     assert_eq!(rt; copy.bytes(), b"a#".as_slice());
-    assert!(rt; copy.same(&name));
+    assert!(rt; copy == name);
     Ok(())
 }
 
@@ -36,10 +36,10 @@ fn each_text_type_takes_its_form(rt: HostRuntime) -> Result<(), Fail> {
         assert_eq!(rt; is_plain_name(bytes), is_plain, "{text}");
     }
     let word = Word::of(rt.alloc(), b"door")?;
-    assert_eq!(rt; word.name(rt.alloc())?.bytes(), word.bytes());
-    assert!(rt; word.copy()?.same(&word));
+    assert_eq!(rt; word.name()?.bytes(), word.bytes());
+    assert!(rt; word.copy()? == word);
     let plain = PlainName::of(rt.alloc(), b"open")?;
-    assert!(rt; plain.copy()?.same(&plain));
+    assert!(rt; plain.copy()? == plain);
     assert_eq!(rt; plain.bytes(), b"open".as_slice());
     Ok(())
 }

@@ -1,19 +1,26 @@
+use sc_base::{
+    Bytes, Name, NoMemory, Plain, PlainName, Queue, Sequence, SmallBytes, TextWriter, Unfit, Word,
+};
 use sc_types::{
-    Bytes, Chart, Command, Data, Entry, Event, Expr, Kind, LogLine, Member, Name, NoMemory, Node,
-    Plain, PlainName, Reply, Sequence, Tag, Unfit, Value, Who, Word,
+    Attribute, Chart, Command, Data, Entry, Event, Expr, Kind, LogLine, Member, Node, Reply, Tag,
+    Value, Who,
 };
 use std::alloc::Global;
 use std::test::Fail;
 
 fn bytes(alloc: Global, text: &str) -> Result<Bytes, NoMemory> {
-    Sequence::from_slice(alloc, text.as_bytes())
+    Bytes::from_slice(alloc, text.as_bytes())
+}
+
+fn small(alloc: Global, text: &str) -> Result<SmallBytes, NoMemory> {
+    SmallBytes::from_slice(alloc, text.as_bytes())
 }
 
 #[test]
 fn a_sequence_is_a_list(rt: HostRuntime) -> Result<(), Fail> {
     let mut list: Sequence<u32> = Sequence::new(rt.alloc());
     assert!(rt; list.is_empty());
-    assert_eq!(rt; list.pop_front(), None);
+    assert_eq!(rt; list.pop(), None);
     for item in [3, 1, 2] {
         list.push(item)?;
     }
@@ -23,10 +30,67 @@ fn a_sequence_is_a_list(rt: HostRuntime) -> Result<(), Fail> {
     *list.item_mut(1) = 7;
     assert_eq!(rt; list.slice(), [3, 7, 2].as_slice());
     let copy = list.copy()?;
-    assert!(rt; copy.same(&list));
-    assert_eq!(rt; list.pop_front(), Some(3));
-    assert_eq!(rt; list.slice(), [7, 2].as_slice());
-    assert!(rt; !copy.same(&list));
+    assert!(rt; copy == list);
+    assert_eq!(rt; list.pop(), Some(2));
+    assert!(rt; copy != list);
+    assert_eq!(rt;
+        Sequence::from_vec(copy.into_vec()).slice(),
+        [3, 7, 2].as_slice()
+    );
+    Ok(())
+}
+
+#[test]
+fn a_queue_gives_what_came_first(rt: HostRuntime) -> Result<(), Fail> {
+    let mut queue: Queue<u32> = Queue::new(rt.alloc());
+    assert!(rt; queue.is_empty());
+    assert_eq!(rt; queue.front().copied(), None);
+    for item in [3, 1, 2] {
+        queue.push(item)?;
+    }
+    assert_eq!(rt; queue.len(), 3);
+    assert_eq!(rt; queue.front().copied(), Some(3));
+    assert_eq!(rt; queue.get(2).copied(), Some(2));
+    let copy = queue.copy()?;
+    assert!(rt; copy == queue);
+    assert_eq!(rt; queue.pop_front(), Some(3));
+    assert!(rt; copy != queue);
+    Ok(())
+}
+
+#[test]
+fn bytes_are_copied_whole_at_each_length(rt: HostRuntime) -> Result<(), Fail> {
+    for text in [
+        "",
+        "a",
+        "a.name.of.22.bytes.abc",
+        "one.of.twenty-three.abc",
+        "and.one.of.twenty-four.a",
+    ] {
+        let copy = small(rt.alloc(), text)?.copy()?;
+        assert_eq!(rt; copy.slice(), text.as_bytes());
+        assert_eq!(rt; copy.is_empty(), text.is_empty());
+        let mut grown = bytes(rt.alloc(), text)?.copy()?;
+        grown.push(b'!')?;
+        grown.extend(text.as_bytes())?;
+        assert_eq!(rt; grown.len(), 2 * text.len() + 1);
+    }
+    assert!(rt; SmallBytes::empty().is_empty());
+    Ok(())
+}
+
+#[test]
+fn a_writer_puts_texts_and_numbers(rt: HostRuntime) -> Result<(), Fail> {
+    let mut out = TextWriter::new(rt.alloc());
+    out.text("= posted ")?;
+    out.number(340282366920938463463374607431768211455)?;
+    out.byte(b' ')?;
+    out.signed(-9223372036854775808)?;
+    out.bytes(b"!")?;
+    out.end_line()?;
+    let wanted = b"= posted 340282366920938463463374607431768211455 -9223372036854775808!\n";
+    assert_eq!(rt; out.slice(), wanted.as_slice());
+    assert_eq!(rt; out.into_bytes().slice(), wanted.as_slice());
     Ok(())
 }
 
@@ -40,10 +104,10 @@ fn event(alloc: Global, note: &str) -> Result<Event, Unfit> {
         number: 9,
         name: Name::of(alloc, b"door.open")?,
         kind: Kind::External,
-        sendid: bytes(alloc, "1")?,
-        origin: bytes(alloc, "#_scxml_s")?,
-        origintype: bytes(alloc, "scxml")?,
-        invokeid: Sequence::new(alloc),
+        sendid: small(alloc, "1")?,
+        origin: small(alloc, "#_scxml_s")?,
+        origintype: small(alloc, "scxml")?,
+        invokeid: SmallBytes::empty(),
         payload: Data::Pairs(pairs),
     })
 }
@@ -70,7 +134,7 @@ fn chart(alloc: Global, text: &str) -> Result<Chart, NoMemory> {
 fn entry(alloc: Global, text: &str) -> Result<Entry, Unfit> {
     let mut logs = Sequence::new(alloc);
     logs.push(LogLine {
-        label: Sequence::new(alloc),
+        label: Bytes::new(alloc),
         value: Value::Text(bytes(alloc, text)?),
     })?;
     Ok(Entry {
@@ -86,17 +150,28 @@ fn entry(alloc: Global, text: &str) -> Result<Entry, Unfit> {
     })
 }
 
-/// Whether a copy is the same as what it copies, and no other value is.
-fn is_told_apart<T: Plain>(alloc: Global, value: &T, other: &T) -> Result<bool, NoMemory> {
+/// Whether a copy equals what it copies, and no other value.
+fn is_told_apart<T: Plain + PartialEq>(value: &T, other: &T) -> Result<bool, NoMemory> {
     let copy = value.copy()?;
-    Ok(copy.same(value) && !copy.same(other))
+    Ok(copy == *value && copy != *other)
 }
 
 #[test]
-fn a_copy_is_the_same_as_what_it_copies(rt: HostRuntime) -> Result<(), Fail> {
+fn a_copy_equals_what_it_copies(rt: HostRuntime) -> Result<(), Fail> {
     let alloc = rt.alloc();
-    assert!(rt; is_told_apart(alloc, &event(alloc, "a")?, &event(alloc, "b")?)?);
-    assert!(rt; is_told_apart(alloc, &chart(alloc, "a")?, &chart(alloc, "b")?)?);
-    assert!(rt; is_told_apart(alloc, &entry(alloc, "a")?, &entry(alloc, "b")?)?);
+    assert!(rt; is_told_apart(&event(alloc, "a")?, &event(alloc, "b")?)?);
+    assert!(rt; is_told_apart(&entry(alloc, "a")?, &entry(alloc, "b")?)?);
+    Ok(())
+}
+
+#[test]
+fn an_attribute_is_found_by_its_name(rt: HostRuntime) -> Result<(), Fail> {
+    let copy = chart(rt.alloc(), "a")?.copy()?;
+    assert_eq!(rt; copy.root.kids.len(), 1);
+    let log = &copy.root.kids.slice()[0];
+    assert!(rt; log.has(Attribute::Expr));
+    assert!(rt; log.expr(Attribute::Expr).is_some());
+    assert!(rt; log.text(Attribute::Label).is_none());
+    assert!(rt; log.words(Attribute::Event).is_empty());
     Ok(())
 }

@@ -1,7 +1,8 @@
 ghost use Rattle.std.specs.Prelude.{◌≡◌, IfOk};
 
+use sc_base::{Name, SmallBytes, Word};
 use sc_timers::{Timed, Timers};
-use sc_types::{Bytes, Data, Event, Kind, Name, To, Word};
+use sc_types::{Data, Event, Kind, To};
 use std::alloc::Global;
 use std::test::Fail;
 
@@ -10,10 +11,10 @@ fn event(alloc: Global, sendid: &[u8]) -> Result<Event, Fail> {
         number: 0,
         name: Name::of(alloc, b"e")?,
         kind: Kind::External,
-        sendid: Bytes::from_slice(alloc, sendid)?,
-        origin: Bytes::new(alloc),
-        origintype: Bytes::new(alloc),
-        invokeid: Bytes::new(alloc),
+        sendid: SmallBytes::from_slice(alloc, sendid)?,
+        origin: SmallBytes::empty(),
+        origintype: SmallBytes::empty(),
+        invokeid: SmallBytes::empty(),
         payload: Data::Absent,
     })
 }

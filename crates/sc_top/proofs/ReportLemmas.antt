@@ -1,5 +1,5 @@
 -- What the report says where a chart is not among those installed.
-use Rattle.std.proofs.Common.{◌≡◌, ℕ, [], List, None, option_and_then, unwrap_or, refl, ap, ◌∙◌, slice_get}
+use Rattle.std.proofs.Common.{◌≡◌, ℕ, [], None, option_and_then, unwrap_or, refl, ap, ◌∙◌, slice_get}
 use Rattle.sc_types.specs.declared.chart.Node.TheViews.{out-Node, roll-Node}
 use Rattle.sc_types.specs.declared.chart.Node.TheBlock.{shown-the_row-Node-0}
 use denote.Hole.Carrier as carrier
