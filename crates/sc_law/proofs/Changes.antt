@@ -21,9 +21,11 @@ IsLive Fresh = Unit {0}
 IsLive Running = Unit {0}
 IsLive (Ended how) = ⊥
 
+-- a host with one chart more
 abbrev pub with_chart : HostImage → List ℕ → List ℕ → HostImage
 with_chart g name text = record g { charts = g.charts ++ record { name = name; text = text } ∷ [] }
 
+-- a host with one session more, which has not stepped
 abbrev pub with_fresh : HostImage → List ℕ → List ℕ → HostImage
 with_fresh g session chart = record g { sessions = g.sessions ++ fresh_session session chart ∷ [] }
 
@@ -85,6 +87,7 @@ step_change : (g : HostImage) (session : List ℕ) (o : Option (ℕ × SessionIm
 step_change g session None e = refuses _ refl
 step_change g session (Some (place, s)) e = step_in_change g session place s e s.state.phase
 
+-- what the host answers is one of the changes
 pub change_of : (g : HostImage) (c : Command) → Change g c (answer g c)
 unfolding answer
 change_of g (Install name text) = install_change g name text (is_too_long 64 name) (has_chart g name) (flat_chart_of text)

@@ -25,6 +25,7 @@ found_at xs (Some p) place s h =
     let parts = pair_at xs p place s (slice_get xs p) refl h in
     (ap (λ (q : ℕ). Some q) parts.0, ap (λ (q : ℕ). slice_get xs q) (sym parts.0) ∙ parts.1)
 
+-- a session that is found by its name stands at its place
 pub is_at : (g : HostImage) (name : List ℕ) (place : ℕ) (s : SessionImage) → session_named g name ≡ Some (place, s) → IsAt g name place s
 is_at g name place s h =
     let parts = found_at g.sessions (session_place g name) place s h in

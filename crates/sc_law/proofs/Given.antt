@@ -30,24 +30,29 @@ use Rattle.sc_law.proofs.Turns.{turn-session}
 
 -- a fact of each item
 
+-- what all items have, they have in a weaker form
 pub all_weaken : {X : Type 0} {P Q : X → Type 0} → ((x : X) → P x → Q x) → (xs : List X) → AllByRecursion P xs → AllByRecursion Q xs
 all_weaken f [] h = tt
 all_weaken f (x ∷ xs) h = (f x h.0, all_weaken f xs h.1)
 
+-- what all items and one more have, the longer list has
 pub all_push : {X : Type 0} (P : X → Type 0) (xs : List X) (y : X) → AllByRecursion P xs → P y → AllByRecursion P (xs ++ y ∷ [])
 all_push P [] y h p = (p, tt)
 all_push P (x ∷ xs) y h p = (h.0, all_push P xs y h.1 p)
 
+-- what all items have, they have where one of them is replaced by an item that has it
 pub all_set : {X : Type 0} (P : X → Type 0) (xs : List X) (i : ℕ) (y : X) → AllByRecursion P xs → P y → AllByRecursion P (slice_set xs i y)
 all_set P [] i y h p = tt
 all_set P (x ∷ xs) zero y h p = (p, h.1)
 all_set P (x ∷ xs) (suc i) y h p = (h.0, all_set P xs i y h.1 p)
 
+-- what all items have, the one at a place has
 pub all_at : {X : Type 0} (P : X → Type 0) (xs : List X) (i : ℕ) (x : X) → slice_get xs i ≡ Some x → AllByRecursion P xs → P x
 all_at P [] i x there h = absurd (cc)
 all_at P (y ∷ ys) zero x there h = subst P (same_Some y x there) h.0
 all_at P (y ∷ ys) (suc i) x there h = all_at P ys i x there h.1
 
+-- what all items have, all but the first have
 pub all_rest : {X : Type 0} (P : X → Type 0) (xs : List X) → AllByRecursion P xs → AllByRecursion P (drop 1 xs)
 all_rest P [] h = tt
 all_rest P (x ∷ xs) h = h.1
@@ -163,6 +168,7 @@ consumed_given done g e a (turns session place s cue command found has is) told 
     subst (λ c. IsGivenIn done (consumed_in c e.reply)) (sym command)
     (subst (λ r. IsGivenIn done (consumed_in (Step session) r)) (sym reply) (cue_given done session s cue at.named has own))
 
+-- what each step of a legal history consumed was given before
 pub given_from : (done : List Entry) (g : HostImage) (history : List Entry) → IsLegal g history → AllWereGiven done g → GivenBefore done history
 unfolding IsGivenIn
 given_from done g [] legal h = tt

@@ -9,11 +9,13 @@ use Rattle.sc_law.specs.Flat.Entry.{no_entry, entry_of, entry_from, entry}
 use Rattle.sc_law.specs.Flat.Microstep.{exit_states, enter, run_contents, microstep}
 use Rattle.sc_law.specs.declared.flat.run_state.RunState.{RunState}
 
+-- of a flat chart, which transitions are kept does not depend on the histories
 pub kept_from_any : (c : Chart) (h : Histories) (configuration : List ℕ) (kept ts : List Transition)
     → kept_from c [] configuration kept ts ≡ kept_from c h configuration kept ts
 kept_from_any c h configuration kept [] = refl
 kept_from_any c h configuration kept (t ∷ ts) = kept_from_any c h configuration (keep c [] configuration kept t) ts
 
+-- of a flat chart, what is entered does not depend on the histories
 pub entry_from_any : (c : Chart) (before h : Histories) (ts : List Transition) (e : EntryTriple)
     → entry_from c [] [] ts e ≡ entry_from c before h ts e
 entry_from_any c before h [] e = refl

@@ -33,6 +33,7 @@ sum_replaced f xs i x y there =
 abbrev pub in_queue : ℕ → List Event → ℕ
 in_queue n queued = count_by (λ (e : Event). e.number == n) queued
 
+-- how often an event of this number waits in the queues of the sessions
 abbrev pub waiting : ℕ → HostImage → ℕ
 waiting n g = sum_by (λ (s : SessionImage). in_queue n s.queued) g.sessions
 
@@ -87,6 +88,7 @@ cue_number n Resume = 0
 cue_number n Cancel = 0
 cue_number n (External e) = cond (e.number == n) 1 0
 
+-- an external cue is the front of the queue
 pub external_front : (p : Phase) (internal queued : List Event) (e : Event) → cue_in p internal queued ≡ Some (External e) → (rest : List Event) × (queued ≡ e ∷ rest)
 external_front phase.Fresh internal queued e h = absurd (cc)
 external_front (phase.Ended how) internal queued e h = absurd (cc)
@@ -155,6 +157,7 @@ few_kept n done g e a (turns session place s cue command found has is) told few 
       none = λ below. omega (arith, told_taken, stepped.none below);
     })
 
+-- a number is consumed at most once in a legal history
 pub once_from : (n done : ℕ) (g : HostImage) (history : List Entry) → IsLegal g history → IsFew n done g → done + count_by (consumes n) history ≤ 1
 once_from n done g [] legal few = omega (arith, few.once)
 once_from n done g (e ∷ es) legal few =

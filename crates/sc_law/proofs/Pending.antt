@@ -30,6 +30,7 @@ use Rattle.sc_law.proofs.Turns.{turn-session, turn_leaves_none}
 
 -- names of sessions are distinct
 
+-- each session has a name of its own
 abbrev pub AreDistinct : List SessionImage → Type 0
 AreDistinct [] = Unit {0}
 AreDistinct (s ∷ ss) = (list_any (is_session_named s.state.session) ss ≡ false) × AreDistinct ss
@@ -72,18 +73,22 @@ distinct_push (x ∷ xs) y new h =
 
 -- weight: what a session has still to do
 
+-- 1 where something waits
 abbrev pub some : List Event → ℕ
 some [] = 0
 some (e ∷ es) = 1
 
+-- how many steps a session has before it, at most
 abbrev pub weight_in : Phase → List Event → List Event → ℕ
 weight_in phase.Fresh internal queued = 1 + some internal + length queued
 weight_in phase.Running internal queued = some internal + length queued
 weight_in (phase.Ended how) internal queued = 0
 
+-- the same of a session
 abbrev pub weight : SessionImage → ℕ
 weight s = weight_in s.state.phase s.state.internal s.queued
 
+-- how many steps all sessions have before them, at most
 abbrev pub pending : HostImage → ℕ
 pending g = sum_by weight g.sessions
 
@@ -201,6 +206,7 @@ placed g name s found =
     ap (λ b. option_and_then {U = ℕ × SessionImage} (λ q. option_map (λ (x : SessionImage). (q, x)) (slice_get g.sessions q)) (cond b (Some place) None)) below
     ∙ ap (option_map {U = ℕ × SessionImage} (λ (x : SessionImage). (place, x))) at
 
+-- a session that is ready stands at its place, with its cue
 pub ready_at : (g : HostImage) (name : List ℕ) → AreDistinct g.sessions → ready g ≡ Some name → IsReadyAt g name
 ready_at g name distinct is_ready =
     let r = ready_session g name (find (λ s. is_some (cue_of s)) g.sessions) refl is_ready in
@@ -235,6 +241,7 @@ none_named n xs h = by_test (list_any (is_session_named n) xs) refl where
       let below = lt-ltb _ _ (slice_get_within xs (position_or_len (is_session_named n) xs) found.0 at) in
       absurd (none-some (position_or_len (is_session_named n) xs) (sym h ∙ ap (λ b. cond b (Some (position_or_len (is_session_named n) xs)) None) below))
 
+-- an answer leaves each session a name of its own
 pub distinct_kept : (g : HostImage) (c : Command) (a : Answer) → Change g c a → AreDistinct g.sessions → AreDistinct a.host.sessions
 distinct_kept g c a (refuses why is) h = subst (λ (x : Answer). AreDistinct x.host.sessions) (sym is) h
 distinct_kept g c a (installs name text command is) h = subst (λ (x : Answer). AreDistinct x.host.sessions) (sym is) h
@@ -277,6 +284,7 @@ step_in_has g place s cue phase.Fresh h e = ap (step_cue g place s) (ap (λ q. c
 step_in_has g place s cue phase.Running h e = ap (step_cue g place s) (ap (λ q. cue_in q s.state.internal s.queued) e ∙ h)
 step_in_has g place s cue (phase.Ended how) h e = absurd (cc)
 
+-- a step of a session with a cue is answered by the turn of that cue
 pub step_has : (g : HostImage) (name : List ℕ) (place : ℕ) (s : SessionImage) (cue : Cue) → session_named g name ≡ Some (place, s) → cue_of s ≡ Some cue
     → answer g (Step name) ≡ step_cue g place s (Some cue)
 unfolding answer

@@ -57,6 +57,7 @@ over_commands : (g : HostImage) (cs : List Command) (budget : ℕ) → next g cs
 over_commands g cs zero h = over_script cs h
 over_commands g cs (suc less) h = (over_ready (ready g) cs h).1
 
+-- the run of a script is a legal history
 pub legal_of_run : (history : List Entry) (g : HostImage) (cs : List Command) (budget : ℕ) → IsRun g cs budget history → IsLegal g history
 legal_of_run [] g cs budget h = tt
 legal_of_run (e ∷ es) g cs budget h = by_first (first_entry g cs budget e es h) (legal_of_run es (answer g e.command).host) where
@@ -118,6 +119,7 @@ served_command g c e es cs enters rest =
       others = ap (λ b. b && list_all is_served es) served ∙ rest.others;
     }
 
+-- the run of a script makes each of its commands once and in order
 pub served_of_run : (history : List Entry) (g : HostImage) (cs : List Command) (budget : ℕ) → AreDistinct g.sessions → IsRun g cs budget history → Served cs history
 served_of_run [] g cs budget distinct h = record { commands = sym (over_commands g cs budget h); others = refl }
 served_of_run (e ∷ es) g cs budget distinct h =
@@ -138,6 +140,7 @@ one_if : (b : Bool) → cond b 1 0 ≤ 1
 one_if true = omega arith
 one_if false = omega arith
 
+-- the run of a script keeps within its budget of steps
 pub within_of_run : (history : List Entry) (g : HostImage) (cs : List Command) (budget : ℕ) → AllByRecursion IsNoStep cs → IsRun g cs budget history → accepted_steps history ≤ budget
 within_of_run [] g cs budget none h = omega arith
 within_of_run (e ∷ es) g cs budget none h =

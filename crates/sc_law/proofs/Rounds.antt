@@ -21,6 +21,7 @@ pub settle_runs_away : (c : Chart) (r next : RunState) → next_round c r ≡ So
 unfolding settle
 settle_runs_away c r next h = ap (λ (o : Option RunState). option_map_or (λ _. (false, r)) o (true, start_invokes r)) h
 
+-- a round that is taken leaves one round less
 pub settle_counts : (c : Chart) (n i : ℕ) (r next : RunState) → i < n → next_round c r ≡ Some next → settle c (n - i) r ≡ settle c (n - (i + 1)) next
 settle_counts c n i r next below h =
     let e : n - i ≡ suc (n - (i + 1)) = omega arith in

@@ -93,6 +93,7 @@ after_keeps : (rested : Bool) (r : RunState) → (after rested r).session ≡ r.
 after_keeps false r = refl
 after_keeps true r = elim r.stopped as (λ b. (after_rest b r).session ≡ r.state.session) [ true ↦ refl | false ↦ refl ]
 
+-- a turn keeps the session's name
 pub turn-session : (c : Chart) (before : SessionState) (cue : Cue) → (turn c before cue).after.session ≡ before.session
 turn-session c before Fresh =
     let r = enter c (first_entry c) (begin before) in
@@ -142,6 +143,7 @@ finish_empty true r rests live = by_stopped r.stopped (rests refl) live where
   by_stopped true rests live = absurd live
   by_stopped false rests live = rests refl
 
+-- a turn that does not end the session leaves no internal event
 pub turn_leaves_none : (c : Chart) (before : SessionState) (cue : Cue) → IsLive (turn c before cue).after.phase → (turn c before cue).after.internal ≡ []
 turn_leaves_none c before Fresh live =
     let settled = settle c (round_limit c) (enter c (first_entry c) (begin before)) in finish_empty settled.0 settled.1 (settle_rests_empty c (round_limit c) (enter c (first_entry c) (begin before))) live
