@@ -1,12 +1,12 @@
+use sc_base::{SmallBytes, Word};
 use sc_family::{Family, Link};
-use sc_types::{Bytes, Word};
 use std::alloc::Global;
 
 fn link(alloc: Global, child: &str) -> Option<Link> {
     Some(Link {
         child: Word::of(alloc, child.as_bytes()).ok()?,
         invoker: Word::of(alloc, b"p").ok()?,
-        invokeid: Bytes::new(alloc),
+        invokeid: SmallBytes::empty(),
         depth: 2,
         cut: false,
     })

@@ -1,7 +1,8 @@
-//! Work for bench/leaf.sh and bench/expressions.sh to time: each line of the input names a kind of work, a size and
-//! a number of rounds, and is answered by that line and a sum, which doesn't depend on time.
+//! Work for the scripts of bench/ to time: each line of the input names a kind of work, a size and a number of rounds,
+//! and is answered by that line and a sum, which doesn't depend on time.
 #![tactic(auto)]
 
+mod events;
 mod expressions;
 mod links;
 mod rows;
@@ -17,6 +18,8 @@ fn done(alloc: Global, work: &str, size: u32, rounds: u32) -> Option<u64> {
         "links" => links::work(alloc, size, rounds),
         "rows" => rows::work(alloc, size, rounds),
         "expressions" => expressions::work(alloc, size, rounds),
+        "queue" => events::queue(alloc, size, rounds),
+        "copies" => events::copies(alloc, size, rounds),
         _ => None,
     }
 }

@@ -1,21 +1,10 @@
 ghost use Rattle.std.specs.Prelude.{◌≡◌, ◌<◌, IfSome};
 
+use crate::events::event;
+use sc_base::Word;
 use sc_timers::{Timed, Timers};
-use sc_types::{Bytes, Data, Event, Kind, Name, To, Word};
+use sc_types::To;
 use std::alloc::Global;
-
-fn event(alloc: Global) -> Option<Event> {
-    Some(Event {
-        number: 0,
-        name: Name::of(alloc, b"e").ok()?,
-        kind: Kind::External,
-        sendid: Bytes::new(alloc),
-        origin: Bytes::new(alloc),
-        origintype: Bytes::new(alloc),
-        invokeid: Bytes::new(alloc),
-        payload: Data::Absent,
-    })
-}
 
 fn send(alloc: Global, number: u64, due: u64) -> Option<Timed>
     ensures { IfSome result (λ t. t.number ≡ number) }
@@ -24,7 +13,7 @@ fn send(alloc: Global, number: u64, due: u64) -> Option<Timed>
         session: Word::of(alloc, b"s").ok()?,
         number,
         due,
-        event: event(alloc)?,
+        event: event(alloc, 0, b"e")?,
         to: To::Own,
     })
 }
