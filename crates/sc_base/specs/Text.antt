@@ -2,6 +2,7 @@
 use Rattle.std.specs.Prelude.{ℕ, ℤ, pos, negsuc, ◌^◌, ◌<◌, ◌≤◌, ◌==◌, Bool, false, not, ◌&&◌, ◌||◌, nat_lt, nat_le, List, [], ◌∷◌, length, IsTrue, codes}
 use Rattle.std.specs.List.{list_all}
 use Rattle.std.specs.Str.{IsUtf8, is_utf8, bytes_eq}
+use Rattle.sc_base.specs.declared.text.TheConstants.{TEXT_LIMIT, PLAIN_NAME_LIMIT}
 
 -- above the space, and none of DEL " ' \
 abbrev pub is_name_byte : ℕ → Bool
@@ -40,7 +41,7 @@ starts_with_letter [] = false
 starts_with_letter (b ∷ bs) = is_letter b
 
 pub record IsPlainName (text : List ℕ) : Type 0 where
-  pub short : length text ≤ 128
+  pub short : length text ≤ PLAIN_NAME_LIMIT
   pub first : IsTrue (starts_with_letter text)
   pub each : IsTrue (list_all (λ b. is_letter b || is_digit b) text)
   pub no_keyword : IsTrue (not (is_keyword text))
@@ -48,7 +49,7 @@ pub record IsPlainName (text : List ℕ) : Type 0 where
 -- `IsPlainName` as a test
 abbrev pub is_plain_name : List ℕ → Bool
 is_plain_name text =
-    nat_le (length text) 128 && starts_with_letter text && list_all (λ b. is_letter b || is_digit b) text
+    nat_le (length text) PLAIN_NAME_LIMIT && starts_with_letter text && list_all (λ b. is_letter b || is_digit b) text
     && not (is_keyword text)
 
 -- line feed and tab are the control characters of a text
@@ -61,7 +62,7 @@ is_text_within most text = nat_le (length text) most && is_utf8 text && list_all
 
 -- what a text of the data model may hold
 abbrev pub is_text : List ℕ → Bool
-is_text text = is_text_within 4096 text
+is_text text = is_text_within TEXT_LIMIT text
 
 -- what 64 bits hold
 abbrev pub is_int : ℤ → Bool

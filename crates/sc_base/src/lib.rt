@@ -20,6 +20,8 @@ pub use memory::NoMemory;
 pub use plain::Plain;
 pub use queue::Queue;
 pub use sequence::Sequence;
-pub use small_bytes::SmallBytes;
-pub use text::{Name, PlainName, Unfit, Word, is_plain_name, is_text, is_word};
+pub use small_bytes::{Share, SmallBytes};
+pub use text::{
+    Name, PLAIN_NAME_LIMIT, PlainName, TEXT_LIMIT, Unfit, Word, is_plain_name, is_text, is_word,
+};
 pub use writer::TextWriter;

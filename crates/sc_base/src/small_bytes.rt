@@ -1,4 +1,5 @@
 ghost use Rattle.std.specs.Prelude.{◌≡◌, [], IsTrue, ◌↔◌, IfOk};
+ghost use Rattle.sc_base.specs.SmallBytes.{share_of};
 
 use crate::memory::NoMemory;
 use crate::plain::Plain;
@@ -30,6 +31,22 @@ impl Clone for Counted {
     }
 }
 
+/// What a copy of a [`SmallBytes`] needs beside it: where the bytes have a count of owners, one owner more. Taking it
+/// is the part of a copy that may fail. A struct of several texts takes the shares of all of them first and then moves
+/// each text once.
+#[derive(Debug, Drop)]
+pub struct Share {
+    counted: Option<Counted>,
+}
+
+impl Model for Share {
+    ghost use Rattle.std.specs.Prelude.{Option, List, ℕ};
+
+    ghost Value = { Option (List ℕ) };
+
+    ghost view = { λ s. s.counted };
+}
+
 /// Bytes that never change, which contracts see as a list of numbers. Up to 23 of them lie in the value itself, and
 /// more of them have a count of owners, so that a copy allocates nothing.
 #[derive(Debug, Drop)]
@@ -41,13 +58,13 @@ pub struct SmallBytes {
 
 impl Model for SmallBytes {
     ghost use Rattle.std.specs.Prelude.{List, ℕ, ◌≤◌};
-    ghost use Rattle.sc_base.specs.SmallBytes.{small_bytes};
+    ghost use Rattle.sc_base.specs.SmallBytes.{small_bytes, IsSmall};
 
     ghost Value = { List ℕ };
 
     ghost view = { small_bytes };
 
-    ghost invariant = { λ s. s.len ≤ 23 };
+    ghost invariant = { IsSmall };
 }
 
 impl SmallBytes {
@@ -99,21 +116,36 @@ impl SmallBytes {
     {
         self.slice().is_empty()
     }
+
+    /// What [`SmallBytes::shared`] makes a copy with.
+    pub fn share(&self) -> Result<Share, AllocError>
+        ensures { IfOk result (λ share. share ≡ share_of self.now) }
+    {
+        let counted = match &self.counted {
+            None => None,
+            Some(counted) => Some(counted.clone()?),
+        };
+        Ok(Share { counted })
+    }
+
+    /// A copy of these bytes, made with their share.
+    pub fn shared(&self, share: Share) -> SmallBytes
+        requires own { share ≡ share_of self.now }
+        ensures { result ≡ self.now }
+    {
+        SmallBytes {
+            counted: share.counted,
+            room: self.room,
+            len: self.len,
+        }
+    }
 }
 
 impl Clone for SmallBytes {
     ghost is_clone = { λ b copy. copy ≡ b };
 
     fn clone(&self) -> Result<Self, AllocError> {
-        let counted = match &self.counted {
-            None => None,
-            Some(counted) => Some(counted.clone()?),
-        };
-        Ok(SmallBytes {
-            counted,
-            room: self.room,
-            len: self.len,
-        })
+        Ok(self.shared(self.share()?))
     }
 }
 

@@ -1,13 +1,20 @@
 ghost use Rattle.std.specs.Prelude.{◌≡◌, ◌↔◌, ◌==◌, ◌||◌, not, IsTrue, IfOk};
 ghost use Rattle.std.specs.List.{list_all};
 ghost use Rattle.std.specs.Str.{IsUtf8, is_utf8};
+ghost use Rattle.sc_base.specs.SmallBytes.{share_of};
 ghost use Rattle.sc_base.specs.Text.{is_name_byte, is_letter, is_digit, is_keyword, starts_with_letter, is_plain_name, is_text_byte, is_text, is_name, is_word, IsName, IsWord, IsPlainName};
 
 use crate::memory::NoMemory;
 use crate::plain::Plain;
-use crate::small_bytes::SmallBytes;
+use crate::small_bytes::{Share, SmallBytes};
 use std::alloc::{AllocError, Global};
 use std::marker::Model;
+
+/// The most bytes of a text of the data model.
+pub const TEXT_LIMIT: usize = 4_096;
+
+/// The most bytes of a [`PlainName`].
+pub const PLAIN_NAME_LIMIT: usize = 128;
 
 /// Why a text was not taken for a name: it lacks the form, or out of memory.
 #[derive(Clone, Copy, Debug, PartialEq, Eq)]
@@ -144,7 +151,7 @@ pub fn is_plain_name(text: &[u8]) -> bool
     ensures value { result ≡ is_plain_name text.now }
     ensures form { IsTrue result ↔ IsPlainName text.now }
 {
-    if text.len() > 128 || !starts_with_letter(text) || !has_plain_name_bytes(text) {
+    if text.len() > PLAIN_NAME_LIMIT || !starts_with_letter(text) || !has_plain_name_bytes(text) {
         return false;
     }
     !is_keyword(text)
@@ -176,7 +183,7 @@ fn has_text_bytes(text: &[u8]) -> bool
 pub fn is_text(text: &[u8]) -> bool
     ensures { result ≡ is_text text.now }
 {
-    text.len() <= 4096 && is_utf8(text) && has_text_bytes(text)
+    text.len() <= TEXT_LIMIT && is_utf8(text) && has_text_bytes(text)
 }
 
 impl Name {
@@ -198,6 +205,23 @@ impl Name {
         ensures form { IsName self.now }
     {
         self.bytes.slice()
+    }
+
+    /// What [`Name::shared`] makes a copy with.
+    pub fn share(&self) -> Result<Share, AllocError>
+        ensures { IfOk result (λ share. share ≡ share_of self.now) }
+    {
+        self.bytes.share()
+    }
+
+    /// A copy of this name, made with its share.
+    pub fn shared(&self, share: Share) -> Name
+        requires own { share ≡ share_of self.now }
+        ensures { result ≡ self.now }
+    {
+        Name {
+            bytes: self.bytes.shared(share),
+        }
     }
 }
 

@@ -1,4 +1,4 @@
-pub mod Bits
-pub mod NextBit
-pub mod Numbers
+pub mod BitLemmas
+pub mod NextBitLemmas
+pub mod NumberLemmas
 pub mod RowLemmas

@@ -7,7 +7,7 @@ use Rattle.std.specs.List.{list_any}
 use Rattle.sc_base.specs.Ascending.{contains, with_number, joined}
 use Rattle.sc_bits.specs.Rows.{RowOf}
 use Rattle.sc_bits.specs.Words.{bit_of, numbers, Holds, IsNextBit}
-use Rattle.sc_bits.proofs.Numbers.{numbers-same, numbers-none, filter-numbers, has-numbers, with_number-numbers, joined-numbers, any-none, any-found, find-none, find-found}
+use Rattle.sc_bits.proofs.NumberLemmas.{numbers-same, numbers-none, filter-numbers, has-numbers, with_number-numbers, joined-numbers, any-none, any-found, find-none, find-found}
 
 abbrev pub members_of : ℕ → List ℕ → List ℕ
 members_of width words = numbers (bit_of words) 0 width

@@ -1,7 +1,7 @@
-pub mod Digits
-pub mod Faults
-pub mod Keys
+pub mod DigitLemmas
+pub mod FaultLemmas
+pub mod KeyLemmas
 pub mod Printed
-pub mod Splits
-pub mod Walks
-pub mod Wholes
+pub mod SplitLemmas
+pub mod WalkLemmas
+pub mod WholeLemmas

@@ -7,7 +7,10 @@ ghost use Rattle.sc_base.specs.Text.{is_word, is_plain_name};
 
 use crate::pieces::{is_tight, pieces};
 use sc_expr::read_delay;
-use sc_types::{Bytes, Form, NoMemory, is_plain_name, is_text, is_word};
+use sc_types::{
+    Bytes, EVENT_NAME_LIMIT, Form, ID_LIMIT, NAME_LIMIT, NoMemory, TYPE_NAME_LIMIT, is_plain_name,
+    is_text, is_word,
+};
 use std::alloc::Global;
 
 /// Whether a text has this form. Expressions are left to their reader.
@@ -15,14 +18,14 @@ pub(crate) fn has_form(alloc: Global, form: Form, text: &[u8]) -> Result<bool, N
     ensures { IfOk result (λ fits. fits ≡ has_form form text.now) }
 {
     Ok(match form {
-        Form::Id => is_word_within(128, text),
+        Form::Id => is_word_within(ID_LIMIT, text),
         Form::Ids => are_ids(alloc, text)?,
         Form::PlainName => is_plain_name(text),
         Form::PlainNames => are_plain_names(alloc, text)?,
-        Form::EventName => is_word_within(256, text),
+        Form::EventName => is_word_within(EVENT_NAME_LIMIT, text),
         Form::Descriptors => are_words(alloc, text)?,
         Form::SendTarget => text.len() <= 512,
-        Form::TypeName => text.len() <= 256,
+        Form::TypeName => text.len() <= TYPE_NAME_LIMIT,
         Form::TransitionType => is_either("external", "internal", text),
         Form::HistoryType => is_either("shallow", "deep", text),
         Form::DataModel => is_either("whole", "null", text),
@@ -31,7 +34,7 @@ pub(crate) fn has_form(alloc: Global, form: Form, text: &[u8]) -> Result<bool, N
         Form::Limit => is_limit(text),
         Form::Version => text == "1.0".as_bytes(),
         Form::NameSpace => text == "http://www.w3.org/2005/07/scxml".as_bytes(),
-        Form::ChartName => is_word_within(64, text),
+        Form::ChartName => is_word_within(NAME_LIMIT, text),
         Form::Label => is_text(text),
         Form::Delay => read_delay(text).is_some(),
         Form::Code => true,
@@ -52,17 +55,17 @@ fn is_either(a: &str, b: &str, text: &[u8]) -> bool
 
 #[tactic(auto, unfolding(sc_types::specs::Elements::are_pieces))]
 fn are_ids(alloc: Global, text: &[u8]) -> Result<bool, NoMemory>
-    ensures { IfOk result (λ fits. fits ≡ are_pieces (is_word_within 128) text.now) }
+    ensures { IfOk result (λ fits. fits ≡ are_pieces (is_word_within ID_LIMIT) text.now) }
 {
     Ok(is_tight(text) && are_all_ids(pieces(alloc, text)?.slice()))
 }
 
 fn are_all_ids(pieces: &[Bytes]) -> bool
-    ensures { result ≡ list_all (is_word_within 128) pieces.now }
+    ensures { result ≡ list_all (is_word_within ID_LIMIT) pieces.now }
 {
     pieces
         .iter()
-        .all(|piece| is_word_within(128, piece.slice()))
+        .all(|piece| is_word_within(ID_LIMIT, piece.slice()))
 }
 
 #[tactic(auto, unfolding(sc_types::specs::Elements::are_pieces))]

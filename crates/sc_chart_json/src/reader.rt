@@ -24,7 +24,7 @@ use serde_json::{Category, Error, Value};
 use std::alloc::Global;
 
 /// The chart that a text spells, or its first fault.
-#[tactic(auto, using(crate::proofs::Wholes::wholes))]
+#[tactic(auto, using(crate::proofs::WholeLemmas::wholes))]
 pub fn read_chart(alloc: Global, text: &[u8]) -> Result<Chart, ChartRefusal>
     ensures chart { IfOk result (λ c. chart_of expr_of text.now ≡ Ok c) }
     ensures fault { (f : ChartFault) → result ≡ Err (ChartRefusal.Fault f) → chart_of expr_of text.now ≡ Err f }
@@ -60,7 +60,7 @@ fn fault(alloc: Global, number: u8) -> ChartRefusal
     })
 }
 
-#[tactic(auto, using(crate::proofs::Walks::walks))]
+#[tactic(auto, using(crate::proofs::WalkLemmas::walks))]
 fn read_root(alloc: Global, value: &Value) -> Result<Chart, ChartRefusal>
     ensures chart { IfOk result (λ c. (value_fault expr_of (view value.now) ≡ None)
         × (c ≡ value_chart expr_of (view value.now))) }
@@ -118,7 +118,7 @@ impl Walk {
     }
 
     /// Reads an element without its child elements.
-    #[tactic(auto, using(crate::proofs::Faults::own_faults))]
+    #[tactic(auto, using(crate::proofs::FaultLemmas::own_faults))]
     fn own(&mut self, alloc: Global, value: &Value) -> Result<Own, ChartRefusal>
         requires { self.old.states ≤ STATE_LIMIT }
         ensures ok { IfOk result (IsOwn self.old self.new (view value.now)) }
@@ -137,7 +137,7 @@ impl Walk {
         Ok(Own { tag, members })
     }
 
-    #[tactic(auto, using(crate::proofs::Faults::tag_faults))]
+    #[tactic(auto, using(crate::proofs::FaultLemmas::tag_faults))]
     fn tag(&self, alloc: Global, value: &Value) -> Result<Tag, ChartRefusal>
         ensures ok { IfOk result (λ t. (tag_at (view value.now) ≡ Some t) × (length self.now.path < LEVEL_LIMIT)) }
         ensures fault { (f : ChartFault) → result ≡ Err (ChartRefusal.Fault f) → (before : ℕ)
@@ -198,7 +198,7 @@ impl Walk {
 }
 
 #[cycle(element)]
-#[tactic(auto, using(crate::proofs::Walks::walks))]
+#[tactic(auto, using(crate::proofs::WalkLemmas::walks))]
 fn read_element(alloc: Global, walk: &mut Walk, value: &Value) -> Result<Node, ChartRefusal>
     requires few { walk.old.states ≤ STATE_LIMIT }
     requires shallow { length walk.old.path ≤ LEVEL_LIMIT }
@@ -215,7 +215,7 @@ fn read_element(alloc: Global, walk: &mut Walk, value: &Value) -> Result<Node, C
 }
 
 #[cycle(element)]
-#[tactic(auto, using(crate::proofs::Walks::walks))]
+#[tactic(auto, using(crate::proofs::WalkLemmas::walks))]
 fn read_kids(
     alloc: Global,
     walk: &mut Walk,

@@ -13,8 +13,8 @@ use Rattle.sc_types.specs.declared.token.Mark.TheVariants.{Not as Bang, Open, Cl
 use Rattle.sc_types.specs.declared.token.Token.{Token}
 use Rattle.sc_types.specs.declared.token.Token.TheVariants.{Word, Number, Text as Quoted, Operator, Mark as Sign}
 use Rattle.sc_expr.specs.Descent.{identified, Parse, within, with_rest, made, closed, chained_from, prefixed, indexed_from, payload, event_field, named, items, front, list_of, primary, postfix, loose, inside, loose_at}
-use Rattle.sc_expr.proofs.Depths.{depth-Two, depth-Item, depth-Not, depth-Neg, depth-Len, depth-AsText, depth-List, passes}
-use Rattle.sc_expr.proofs.Loops.{chained_from_op, chained_from_other, indexed_from_square, indexed_from_other}
+use Rattle.sc_expr.proofs.DepthLemmas.{depth-Two, depth-Item, depth-Not, depth-Neg, depth-Len, depth-AsText, depth-List, passes}
+use Rattle.sc_expr.proofs.LoopLemmas.{chained_from_op, chained_from_other, indexed_from_square, indexed_from_other}
 
 -- whether the first token belongs to what stands before it, where that is bound less loosely than this
 abbrev pub belongs : ℕ → List Token → Bool

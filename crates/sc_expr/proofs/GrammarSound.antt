@@ -16,7 +16,7 @@ use Rattle.sc_types.specs.declared.token.Token.{Token}
 use Rattle.sc_types.specs.declared.token.Token.TheVariants.{Word, Number, Text as Quoted, Operator, Mark as Sign}
 use Rattle.sc_expr.specs.Descent as descent
 use Rattle.sc_expr.specs.Descent.{identified, Parse, within, made, after_close_square, closed, bracketed, chained, prefixed, indexed, payload, event_field, field_of, named, items, item_end, with_rest, list_of, primary, postfix, loose, inside, loose_at}
-use Rattle.sc_expr.proofs.Depths.{depth-Bool, depth-Int, depth-Text, depth-Datum, depth-Field, depth-Active, depth-List}
+use Rattle.sc_expr.proofs.DepthLemmas.{depth-Bool, depth-Int, depth-Text, depth-Datum, depth-Field, depth-Active, depth-List}
 
 -- the front of `ts` spells the expression, and the rest stands behind it
 pub record IsRead (room bound : ℕ) (ts : List Token) (r : Expr × List Token) : Type 0 where

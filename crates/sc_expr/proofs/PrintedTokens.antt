@@ -15,7 +15,7 @@ use Rattle.sc_types.specs.declared.token.Mark.{Mark}
 use Rattle.sc_types.specs.declared.token.Mark.TheVariants.{Not, Open, Close, OpenSquare, CloseSquare, Comma, Dot}
 use Rattle.sc_types.specs.declared.token.Token.{Token}
 use Rattle.sc_types.specs.declared.token.Token.TheVariants.{Word, Number, Text, Operator, Mark as Sign, Bad}
-use Rattle.sc_expr.proofs.Lexing.{tokens_next, tokens_none}
+use Rattle.sc_expr.proofs.LexingLemmas.{tokens_next, tokens_none}
 
 -- A lemma on what a text begins with takes the tokens of the rest, `tokens signed text ≡ ts`, and gives those of the whole.
 

@@ -16,7 +16,7 @@ use Rattle.sc_types.specs.declared.value.Value.TheFolds.{fold-roll-Value, map-Va
 use Rattle.sc_types.specs.declared.value.Value.TheOpen.{Value-F}
 use Rattle.sc_types.specs.declared.value.Value.TheVariants.{Bool as Truth, Int, Text, List as Listed, rolls-Bool, rolls-Int, rolls-Text, rolls-List}
 use Rattle.sc_types.specs.declared.value.Value.TheViews.{roll-Value, roll-out-Value}
-use Rattle.sc_expr.proofs.Lexing.{tokens_none}
+use Rattle.sc_expr.proofs.LexingLemmas.{tokens_none}
 use Rattle.sc_expr.proofs.PrintedTokens.{ReadsAs, reads_alone, mark_tokens, word_tokens, number_tokens, negative_tokens, text_tokens, decimal_digits, digits_are_words, word_is_not_white}
 
 -- `is_item` and `fits`, of a layer

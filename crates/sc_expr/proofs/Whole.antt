@@ -9,7 +9,7 @@ use Rattle.sc_types.specs.declared.token.Token.{Token}
 use Rattle.sc_expr.specs.Descent.{loose_at, whole, expression_of}
 use Rattle.sc_expr.specs.Reading.{expr_of}
 use Rattle.sc_expr.proofs.Grammar.{reads_spelled, spelled_reads, one_tree}
-use Rattle.sc_expr.proofs.Limits.{within_limits}
+use Rattle.sc_expr.proofs.LimitLemmas.{within_limits}
 
 ends : (ts rest : List Token) (e : Expr) → loose_at 256 6 ts ≡ Some (e, rest) → rest ≡ [] → expression_of ts ≡ Some e
 ends ts rest e read end = ap (option_and_then whole) (read ∙ ap (λ us. Some (e, us)) end)

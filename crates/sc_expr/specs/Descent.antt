@@ -17,6 +17,7 @@ use Rattle.sc_types.specs.declared.token.Token.{Token}
 use Rattle.sc_types.specs.declared.token.Token.TheVariants.{Word, Number, Text as Quoted, Operator, Mark as Sign}
 use Rattle.sc_expr.specs.declared.sub.Prefix.{Prefix}
 use Rattle.sc_expr.specs.declared.sub.Prefix.TheVariants as prefix
+use Rattle.sc_types.specs.declared.limits.TheConstants.{EXPRESSION_LEVEL_LIMIT}
 
 -- what is read from the front, and the tokens behind it
 abbrev pub Parse : Type 0 → Type 0
@@ -29,7 +30,7 @@ ahead (Some t) ts = t ∷ ts
 
 -- an expression that is not too deep
 abbrev pub within : Expr → Option Expr
-within e = if nat_le (depth e) 256 then Some e else None
+within e = if nat_le (depth e) EXPRESSION_LEVEL_LIMIT then Some e else None
 
 abbrev pub with_rest : List Token → Expr → Expr × List Token
 with_rest rest e = (e, rest)
@@ -241,4 +242,4 @@ whole (e, []) = Some e
 whole (e, t ∷ ts) = None
 
 abbrev pub expression_of : List Token → Option Expr
-expression_of ts = option_and_then whole (loose_at 256 6 ts)
+expression_of ts = option_and_then whole (loose_at EXPRESSION_LEVEL_LIMIT 6 ts)

@@ -52,7 +52,7 @@ fn short_number(text: &[u8]) -> Option<u64>
     }
 }
 
-#[tactic(auto, using(crate::proofs::Runs::front))]
+#[tactic(auto, using(crate::proofs::RunLemmas::front))]
 fn seconds(text: &[u8]) -> Option<u64>
     ensures { result ≡ seconds text.now }
 {
@@ -60,7 +60,7 @@ fn seconds(text: &[u8]) -> Option<u64>
     seconds_of(&text[..length], &text[length..])
 }
 
-#[tactic(auto, using(crate::proofs::Runs::front))]
+#[tactic(auto, using(crate::proofs::RunLemmas::front))]
 fn digits_len(text: &[u8]) -> usize
     ensures { result ≡ prefix_len is_digit text.now }
 {

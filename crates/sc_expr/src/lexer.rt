@@ -64,21 +64,21 @@ fn is_word_byte(byte: u8) -> bool
     byte.is_ascii_alphanumeric() || byte == b'_'
 }
 
-#[tactic(auto, using(crate::proofs::Runs::front))]
+#[tactic(auto, using(crate::proofs::RunLemmas::front))]
 fn white_len(text: &[u8]) -> usize
     ensures { result ≡ prefix_len is_white_space text.now }
 {
     text.iter().take_while(|b| is_white_space(**b)).count()
 }
 
-#[tactic(auto, using(crate::proofs::Runs::front))]
+#[tactic(auto, using(crate::proofs::RunLemmas::front))]
 fn run_len(text: &[u8]) -> usize
     ensures { result ≡ prefix_len is_word_byte text.now }
 {
     text.iter().take_while(|b| is_word_byte(**b)).count()
 }
 
-#[tactic(auto, using(crate::proofs::Runs::front))]
+#[tactic(auto, using(crate::proofs::RunLemmas::front))]
 fn without_white(text: &[u8]) -> &[u8]
     ensures { result.now ≡ without_white text.now }
 {
@@ -151,7 +151,7 @@ fn run_token(alloc: Global, run: &[u8]) -> Result<Token, NoMemory>
     Ok(Token::Word(Bytes::from_slice(alloc, run)?))
 }
 
-#[tactic(auto, using(crate::proofs::Runs::front))]
+#[tactic(auto, using(crate::proofs::RunLemmas::front))]
 fn read_run(alloc: Global, text: &[u8]) -> Result<(Token, &[u8]), NoMemory>
     ensures { IfOk result (λ r. (r.0, r.1.now) ≡ read_run text.entry.now) }
 {
@@ -160,7 +160,7 @@ fn read_run(alloc: Global, text: &[u8]) -> Result<(Token, &[u8]), NoMemory>
     Ok(read_token(token, &text[length..]))
 }
 
-#[tactic(auto, using(crate::proofs::Runs::front))]
+#[tactic(auto, using(crate::proofs::RunLemmas::front))]
 fn read_negative(text: &[u8]) -> (Token, &[u8])
     ensures { (result.0, result.1.now) ≡ read_negative text.entry.now }
 {

@@ -5,14 +5,11 @@ ghost use Rattle.sc_expr.specs.Literals.{single, is_open, is_close, first_item, 
 use crate::fault::ExprFault;
 use crate::lexer::{Lexer, is_white_space};
 use sc_base::{Bytes, NoMemory, Sequence, TextWriter};
-use sc_types::{Mark, Token, Value};
+use sc_types::{ITEM_LIMIT, Mark, Token, Value};
 use std::alloc::Global;
 
-/// The most items of a list.
-const MOST_ITEMS: usize = 256;
-
 /// Reads the literal of a value; `NotExpr` exactly where the text is none.
-#[tactic(auto, using(crate::proofs::Literals::literal_trimmed, crate::proofs::Literals::literal_untrimmed))]
+#[tactic(auto, using(crate::proofs::LiteralLemmas::literal_trimmed, crate::proofs::LiteralLemmas::literal_untrimmed))]
 pub fn read_value(alloc: Global, text: &[u8]) -> Result<Value, ExprFault>
     ensures ok { IfOk result (λ v. literal_value text.now ≡ Some v) }
     ensures refused { result ≡ Err ExprFault.NotExpr → literal_value text.now ≡ None }
@@ -115,7 +112,7 @@ fn single(token: Token) -> Option<Value>
 fn listed(items: Sequence<Value>) -> Option<Value>
     ensures { result ≡ listed items }
 {
-    if items.len() <= MOST_ITEMS {
+    if items.len() <= ITEM_LIMIT {
         Some(Value::List(items))
     } else {
         None
@@ -211,7 +208,7 @@ pub fn print_value(alloc: Global, value: &Value) -> Result<Bytes, NoMemory>
 
 /// Puts a value as its literal behind what is there.
 #[cycle(print)]
-#[tactic(auto, using(crate::proofs::Literals::texts))]
+#[tactic(auto, using(crate::proofs::LiteralLemmas::texts))]
 pub fn put_value(out: &mut TextWriter, value: &Value) -> Result<(), NoMemory>
     ensures { OnOk result (out.new ≡ out.old ++ value_text value.now) }
 {
@@ -224,7 +221,7 @@ pub fn put_value(out: &mut TextWriter, value: &Value) -> Result<(), NoMemory>
 }
 
 #[cycle(print)]
-#[tactic(auto, using(crate::proofs::Literals::texts))]
+#[tactic(auto, using(crate::proofs::LiteralLemmas::texts))]
 fn put_values(out: &mut TextWriter, items: &[Value]) -> Result<(), NoMemory>
     ensures { OnOk result (out.new ≡ out.old ++ value_text (Value.List items.now)) }
 {

@@ -13,7 +13,8 @@ use crate::fault::ExprFault;
 use crate::lexer::Lexer;
 use crate::sub::{Prefix, Sub};
 use sc_types::{
-    Bytes, EventField, Expr, Mark, NoMemory, Op, PlainName, Sequence, Token, Unfit, is_plain_name,
+    Bytes, EXPRESSION_LEVEL_LIMIT, EventField, Expr, Mark, NoMemory, Op, PlainName, Sequence,
+    Token, Unfit, is_plain_name,
 };
 use std::alloc::Global;
 use std::marker::Model;
@@ -21,9 +22,6 @@ use std::mem;
 
 /// The looseness of an expression that no bracket closes in.
 const LOOSEST: u8 = 6;
-
-/// The most brackets that may be open at a place.
-const MOST_OPEN: u32 = 256;
 
 /// Reads an expression; `NotExpr` exactly where the text spells none.
 #[tactic(auto, using(crate::proofs::Whole::wholes))]
@@ -37,7 +35,7 @@ pub fn read_expr(alloc: Global, text: &[u8]) -> Result<Expr, ExprFault>
     ensures reading { IsReading expr_of }
 {
     let mut reader = Reader::new(alloc, text)?;
-    let whole = reader.loose(alloc, MOST_OPEN, LOOSEST)?;
+    let whole = reader.loose(alloc, EXPRESSION_LEVEL_LIMIT, LOOSEST)?;
     if !reader.is_at_end() {
         return Err(ExprFault::NotExpr);
     }

@@ -1,11 +1,12 @@
 ghost use Rattle.std.specs.Prelude.{◌≡◌, ◌≢◌, ◌≤◌, IfOk};
 ghost use Rattle.sc_types.specs.Expressions.{depth};
+ghost use Rattle.sc_types.specs.declared.limits.TheConstants.{EXPRESSION_LEVEL_LIMIT};
 ghost use Rattle.sc_types.specs.declared.expr.Expr.TheVariants.{Two, Item, Len, AsText};
 ghost use Rattle.sc_expr.specs.Descent.{prefix_of};
 ghost use Rattle.sc_expr.specs.Reads.{Makes};
 
 use crate::fault::ExprFault;
-use sc_types::{Boxed, Expr, Op};
+use sc_types::{Boxed, EXPRESSION_LEVEL_LIMIT, Expr, Op};
 use std::alloc::Global;
 use std::marker::Model;
 
@@ -24,6 +25,7 @@ pub(crate) struct Sub {
 }
 
 impl Model for Sub {
+    ghost use Rattle.sc_types.specs.declared.limits.TheConstants.{EXPRESSION_LEVEL_LIMIT};
     ghost use Rattle.std.specs.Prelude.{◌≡◌, ◌≤◌};
     ghost use Rattle.sc_types.specs.Expressions.{depth};
     ghost use Rattle.sc_types.specs.declared.expr.Expr.{Expr};
@@ -36,14 +38,14 @@ impl Model for Sub {
 
     ghost view = { λ s. s.expr };
 
-    ghost invariant = { λ s. (s.levels ≡ depth s.expr) × (s.levels ≤ 256) };
+    ghost invariant = { λ s. (s.levels ≡ depth s.expr) × (s.levels ≤ EXPRESSION_LEVEL_LIMIT) };
 }
 
 impl Sub {
     pub(crate) fn leaf(expr: Expr) -> Sub
         requires { depth expr ≡ 1 }
         ensures value { result ≡ expr }
-        ensures shallow { depth result ≤ 256 }
+        ensures shallow { depth result ≤ EXPRESSION_LEVEL_LIMIT }
     {
         Sub { expr, levels: 1 }
     }
@@ -53,7 +55,7 @@ impl Sub {
         ensures made { Makes expr result }
         ensures memory { result ≢ Err ExprFault.NoMemory }
     {
-        if levels > 256 {
+        if levels > EXPRESSION_LEVEL_LIMIT {
             return Err(ExprFault::NotExpr);
         }
         Ok(Sub { expr, levels })
@@ -61,14 +63,14 @@ impl Sub {
 
     pub(crate) fn depth(&self) -> u32
         ensures value { result ≡ depth self.now }
-        ensures bound { result ≤ 256 }
+        ensures bound { result ≤ EXPRESSION_LEVEL_LIMIT }
     {
         self.levels
     }
 
     pub(crate) fn into_expr(self) -> Expr
         ensures value { result ≡ self }
-        ensures shallow { depth self ≤ 256 }
+        ensures shallow { depth self ≤ EXPRESSION_LEVEL_LIMIT }
     {
         self.expr
     }

@@ -20,7 +20,7 @@ pub fn print_expr(alloc: Global, e: &Expr) -> Result<Bytes, NoMemory>
 }
 
 #[cycle(print)]
-#[tactic(auto, using(crate::proofs::Writing::expr_layers))]
+#[tactic(auto, using(crate::proofs::WritingLemmas::expr_layers))]
 fn put_expr(out: &mut TextWriter, e: &Expr) -> Result<(), NoMemory>
     ensures { OnOk result (out.new ≡ out.old ++ expr_text e.now) }
 {

@@ -20,8 +20,8 @@ use Rattle.sc_law.specs.declared.flat.run_state.TurnResult.{TurnResult}
 use Rattle.sc_law.specs.Host.{Answer, answer, empty_host, chart_named, with_session, queue, posted_event, cue_in, cue_of, name_of, queue_left, queue_of_phase, after_turn}
 use Rattle.sc_law.specs.History.{Tells, IsLegal, consumed_in, consumed, is_number, consumes}
 use Rattle.sc_law.specs.Flat.Turn.{turn}
-use Rattle.sc_law.proofs.Changes.{Change, refuses, installs, starts, queues, turns, change_of, with_fresh}
-use Rattle.sc_law.proofs.Found.{is_at}
+use Rattle.sc_law.proofs.ChangeLemmas.{Change, refuses, installs, starts, queues, turns, change_of, with_fresh}
+use Rattle.sc_law.proofs.FoundLemmas.{is_at}
 
 -- a sum over a list of which one item was replaced
 pub sum_replaced : {X : Type 0} (f : X → ℕ) (xs : List X) (i : ℕ) (x y : X) → slice_get xs i ≡ Some x → sum_by f (slice_set xs i y) + f x ≡ sum_by f xs + f y

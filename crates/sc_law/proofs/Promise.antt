@@ -11,10 +11,10 @@ use Rattle.sc_types.specs.declared.host.HostImage.{HostImage}
 use Rattle.sc_law.specs.Host.{answer, ready, empty_host}
 use Rattle.sc_law.specs.History.{IsLegal, replay}
 use Rattle.sc_law.specs.Run.{over, of_script, of_ready, next, Enters, Continues, IsRun, is_of, commands_of, is_accepted_step, served_by, is_served, IsNoStep, accepted_steps, IsHistoryOf}
-use Rattle.sc_law.proofs.Changes.{change_of}
-use Rattle.sc_law.proofs.Given.{given_from}
+use Rattle.sc_law.proofs.ChangeLemmas.{change_of}
+use Rattle.sc_law.proofs.GivenLemmas.{given_from}
 use Rattle.sc_law.proofs.Once.{consumed_once}
-use Rattle.sc_law.proofs.Pending.{AreDistinct, pending, distinct_kept, command_raises, ready_step}
+use Rattle.sc_law.proofs.PendingLemmas.{AreDistinct, pending, distinct_kept, command_raises, ready_step}
 
 -- the first entry of a run is a step of the ready session or the next command, and the rest follows
 pub data First (g : HostImage) (cs : List Command) (budget : ℕ) (e : Entry) (Rest : HostImage → List Command → ℕ → Type 0) : Type 0 where

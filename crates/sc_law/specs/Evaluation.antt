@@ -26,6 +26,8 @@ use Rattle.sc_types.specs.declared.value.Value.{Value, Row_of-Value, end_of-Valu
 use Rattle.sc_types.specs.declared.value.Value.TheOpen.{Value-F}
 use Rattle.sc_types.specs.declared.value.Value.TheVariants.{Bool as Truth, Int, Text, List as Listed, List'}
 use Rattle.sc_law.specs.Runs.{Env}
+use Rattle.sc_base.specs.declared.text.TheConstants.{TEXT_LIMIT}
+use Rattle.sc_types.specs.declared.limits.TheConstants.{ITEM_LIMIT}
 
 abbrev pub Evaluated : Type 0
 Evaluated = Result Value EvalFault
@@ -82,10 +84,10 @@ abbrev pub in_range : ℤ → Evaluated
 in_range n = if is_int n then Ok (Int n) else Err Overflow
 
 abbrev pub short_text : List ℕ → Evaluated
-short_text text = if nat_le (length text) 4096 then Ok (Text text) else Err TooLong
+short_text text = if nat_le (length text) TEXT_LIMIT then Ok (Text text) else Err TooLong
 
 abbrev pub short_list : List Value → Evaluated
-short_list items = if nat_le (length items) 256 then Ok (Listed items) else Err TooLong
+short_list items = if nat_le (length items) ITEM_LIMIT then Ok (Listed items) else Err TooLong
 
 -- equality; values of two kinds are never equal
 

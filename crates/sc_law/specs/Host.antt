@@ -30,6 +30,7 @@ use Rattle.sc_law.specs.declared.flat.run_state.TurnResult.{TurnResult}
 use Rattle.sc_law.specs.FlatCharts.{flat_chart_of}
 use Rattle.sc_law.specs.Runs.{fresh_state, pairs_data}
 use Rattle.sc_law.specs.Flat.Turn.{turn}
+use Rattle.sc_types.specs.declared.limits.TheConstants.{EVENT_NAME_LIMIT, NAME_LIMIT}
 
 -- what the host answers: itself after the command, the reply, what was logged, and what became of each effect
 pub record Answer : Type 0 where
@@ -102,7 +103,7 @@ install_read g name text (Some chart) =
 
 abbrev pub install : HostImage → List ℕ → List ℕ → Answer
 install g name text =
-    if is_too_long 64 name then refused g (refusal.TooLong 2)
+    if is_too_long NAME_LIMIT name then refused g (refusal.TooLong 2)
     else (if has_chart g name then refused g refusal.NameTaken
     else install_read g name text (flat_chart_of text))
 
@@ -117,8 +118,8 @@ has_slash name = list_any (λ b. b == 47) name
 
 abbrev pub start : HostImage → List ℕ → List ℕ → Answer
 start g session chart =
-    if is_too_long 64 session then refused g (refusal.TooLong 1)
-    else (if is_too_long 64 chart then refused g (refusal.TooLong 2)
+    if is_too_long NAME_LIMIT session then refused g (refusal.TooLong 1)
+    else (if is_too_long NAME_LIMIT chart then refused g (refusal.TooLong 2)
     else (if has_slash session then refused g refusal.BadName
     else (if not (has_chart g chart) then refused g refusal.NoChart
     else (if is_some (session_place g session) then refused g refusal.NameTaken
@@ -154,7 +155,7 @@ post_found g (Some found) name pairs = post_to g found.0 found.1 found.1.state.p
 
 abbrev pub post : HostImage → List ℕ → List ℕ → List (List ℕ × Value) → Answer
 post g session name pairs =
-    if is_too_long 256 name then refused g (refusal.TooLong 3) else post_found g (session_named g session) name pairs
+    if is_too_long EVENT_NAME_LIMIT name then refused g (refusal.TooLong 3) else post_found g (session_named g session) name pairs
 
 -- step
 

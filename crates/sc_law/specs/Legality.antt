@@ -106,9 +106,13 @@ are_below above paths = list_all (leads_on above) paths
 
 -- default transitions
 
+-- no text of a chart spells an empty list, but a chart may be made with one
+abbrev pub names_none : Attribute → Node → Bool
+names_none a n = length (words_at a n) == 0
+
 -- a transition that only names targets
 abbrev pub is_default : Node → Bool
-is_default t = not (has attribute.Event t) && not (has attribute.Cond t) && has attribute.Target t
+is_default t = not (has attribute.Event t) && not (has attribute.Cond t) && not (names_none attribute.Target t)
 
 abbrev pub only_default : List Node → Option (List (List ℕ))
 only_default [] = None
@@ -122,8 +126,9 @@ default_ids n = only_default (filter (λ kid. is_tag tag.Transition (tag_of kid)
 -- 22: defaults of states
 
 abbrev pub is_bad_member : Chart → Path → Node → Tag → Bool
-is_bad_member c path n tag.Scxml = not (all_orthogonal c (targets c (words_at attribute.Initial n)))
-is_bad_member c path n tag.State = not (has_states n) || has_kid tag.Initial n
+is_bad_member c path n tag.Scxml =
+    names_none attribute.Initial n || not (all_orthogonal c (targets c (words_at attribute.Initial n)))
+is_bad_member c path n tag.State = names_none attribute.Initial n || not (has_states n) || has_kid tag.Initial n
     || not (are_below path (targets c (words_at attribute.Initial n)))
     || not (all_orthogonal c (targets c (words_at attribute.Initial n)))
 is_bad_member c path n t = false

@@ -28,3 +28,4 @@ pub mod Sets
 pub mod Transitions
 pub mod Tree
 pub mod Turn
+pub mod Turned

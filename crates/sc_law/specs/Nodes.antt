@@ -1,12 +1,12 @@
 -- The elements of a chart in document order, and their tags. SCXML 3.1 to 6.5; that an element is named by its path,
 -- the places among child elements that lead to it from the root, is this host's own rule.
-use Rattle.std.specs.Prelude.{ℕ, ◌+◌, ◌-◌, ◌==◌, Bool, true, false, ◌&&◌, nat_eq, nat_lt, Option, Some, option_and_then, unwrap_or, List, [], ◌∷◌, ◌++◌, length, take, slice_get}
+use Rattle.std.specs.Prelude.{ℕ, ◌+◌, ◌-◌, ◌==◌, Bool, ◌&&◌, nat_eq, nat_lt, Option, Some, option_and_then, unwrap_or, List, [], ◌∷◌, ◌++◌, length, take, slice_get}
 use Rattle.std.specs.List.{starts_with}
 use Rattle.std.specs.Str.{bytes_eq}
 use Rattle.sc_types.specs.declared.chart.Chart.{Chart}
 use Rattle.sc_types.specs.declared.chart.Node.{Node, Node', Row_of-Node, end_of-Node, more_of-Node, out-Node}
+use Rattle.sc_types.specs.contracts.chart.TagPartialEq.TheImpl as tag_eq
 use Rattle.sc_types.specs.declared.chart.Tag.{Tag}
-use Rattle.sc_types.specs.declared.chart.Tag.TheVariants as tag
 
 -- paths
 
@@ -58,29 +58,4 @@ abbrev pub tag_of : Node → Tag
 tag_of n = (out-Node n).tag
 
 abbrev pub is_tag : Tag → Tag → Bool
-is_tag tag.Scxml tag.Scxml = true
-is_tag tag.State tag.State = true
-is_tag tag.Parallel tag.Parallel = true
-is_tag tag.Final tag.Final = true
-is_tag tag.History tag.History = true
-is_tag tag.Initial tag.Initial = true
-is_tag tag.Transition tag.Transition = true
-is_tag tag.OnEntry tag.OnEntry = true
-is_tag tag.OnExit tag.OnExit = true
-is_tag tag.Finalize tag.Finalize = true
-is_tag tag.DataModel tag.DataModel = true
-is_tag tag.DataItem tag.DataItem = true
-is_tag tag.DoneData tag.DoneData = true
-is_tag tag.Content tag.Content = true
-is_tag tag.Param tag.Param = true
-is_tag tag.Invoke tag.Invoke = true
-is_tag tag.Raise tag.Raise = true
-is_tag tag.If tag.If = true
-is_tag tag.ElseIf tag.ElseIf = true
-is_tag tag.Else tag.Else = true
-is_tag tag.ForEach tag.ForEach = true
-is_tag tag.Log tag.Log = true
-is_tag tag.Assign tag.Assign = true
-is_tag tag.Send tag.Send = true
-is_tag tag.Cancel tag.Cancel = true
-is_tag s t = false
+is_tag = (tag_eq.ghosts).eq

@@ -29,6 +29,7 @@ use Rattle.sc_law.specs.Runs.{Env, Running, enqueue, failed, with_effect, pairs_
 use Rattle.sc_law.specs.Evaluation.{Evaluated, datum, text_of, value}
 use Rattle.sc_law.specs.Data.{set}
 use Rattle.sc_law.specs.Outcomes.{Outcome, done, stopped_at}
+use Rattle.sc_types.specs.declared.limits.TheConstants.{EVENT_NAME_LIMIT}
 
 -- a child element: its tag and its attributes
 abbrev pub Child : Type 0
@@ -134,7 +135,7 @@ send_delay m env =
     (code_in attribute.DelayExpr m) (Some 0))
 
 abbrev pub event_name : Value → Option (List ℕ)
-event_name v = option_and_then (λ text. if is_word_within 256 text then Some text else None) (text_of v)
+event_name v = option_and_then (λ text. if is_word_within EVENT_NAME_LIMIT text then Some text else None) (text_of v)
 
 abbrev pub send_name : Members → Env → Option (List ℕ)
 send_name m env = option_or (text_in attribute.Event m)

@@ -1,2 +1,2 @@
-pub mod Begins
-pub mod Pieces
+pub mod BeginLemmas
+pub mod PieceLemmas

@@ -3,7 +3,7 @@ ghost use Rattle.sc_types.specs.Descriptors.{dropped, piece_matches};
 ghost use Rattle.sc_names.specs.Bytes.{begins};
 
 /// Whether one descriptor, a piece without white space, matches the name of an event.
-#[tactic(auto, using(crate::proofs::Begins::starts_with_tokens), unfolding(sc_types::specs::Descriptors::piece_matches))]
+#[tactic(auto, using(crate::proofs::BeginLemmas::starts_with_tokens), unfolding(sc_types::specs::Descriptors::piece_matches))]
 pub fn piece_matches(piece: &[u8], name: &[u8]) -> bool
     ensures { result ≡ piece_matches piece.now name.now }
 {

@@ -1,4 +1,4 @@
 pub mod CallerLemmas
-pub mod Places
+pub mod PlaceLemmas
 pub mod SendLemmas
-pub mod Sweep
+pub mod SweepLemmas

@@ -8,6 +8,7 @@ use Rattle.sc_types.specs.declared.command.Command.{Command}
 use Rattle.sc_types.specs.declared.command.Command.TheVariants.{Install, Start, Post}
 use Rattle.sc_law.specs.Lines.{line, command_text}
 use Rattle.sc_top.specs.declared.script_reader.TheConstants.{SCRIPT_LIMIT}
+use Rattle.sc_types.specs.declared.limits.TheConstants.{NAME_LIMIT}
 
 -- this byte is nowhere in the text
 abbrev pub lacks : ℕ → List ℕ → Bool
@@ -16,7 +17,7 @@ lacks byte text = list_all (λ b. not (b == byte)) text
 -- a name of a chart or a session in a script: 47 is `/`
 pub record IsShortName (text : List ℕ) : Type 0 where
   pub word : IsWord text
-  pub short : length text ≤ 64
+  pub short : length text ≤ NAME_LIMIT
   pub no_slash : IsTrue (lacks 47 text)
 
 -- the JSON of a chart line, with no space round it

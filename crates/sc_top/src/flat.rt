@@ -7,7 +7,9 @@ ghost use Rattle.sc_types.specs.FlatChart.{is_bare_byte, is_bare_literal, is_bar
 ghost use Rattle.sc_law.specs.FlatCharts.{flat_chart_of};
 
 use sc_chart_json::read_chart;
-use sc_types::{Bytes, Chart, ChartRefusal, Expr, Member, NoMemory, Node, Tag, is_plain_name};
+use sc_types::{
+    Bytes, Chart, ChartRefusal, Expr, Member, NoMemory, Node, TEXT_LIMIT, Tag, is_plain_name,
+};
 use std::alloc::Global;
 
 /// The flat chart that a text spells, if it spells one.
@@ -258,7 +260,7 @@ fn is_bare_literal(code: &Expr) -> bool
     ensures { result ≡ is_bare_literal code.now }
 {
     match code {
-        Expr::Text(text) => text.len() <= 4096 && has_bare_bytes(text.slice()),
+        Expr::Text(text) => text.len() <= TEXT_LIMIT && has_bare_bytes(text.slice()),
         _ => false,
     }
 }

@@ -8,8 +8,9 @@ use crate::flat::read_flat_chart;
 use sc_base::{Bytes, NoMemory, Plain, Queue, Sequence, SmallBytes, Word};
 use sc_law::{Tree, TurnResult, turn};
 use sc_types::{
-    Chart, ChartFault, ChartImage, Command, Cue, CueName, Data, Delivery, Event, HostImage, Kind,
-    LogLine, Node, PairList, Phase, Refusal, Reply, SessionImage, SessionState, Tag,
+    Chart, ChartFault, ChartImage, Command, Cue, CueName, Data, Delivery, EVENT_NAME_LIMIT, Event,
+    HostImage, Kind, LogLine, NAME_LIMIT, Node, PairList, Phase, Refusal, Reply, SessionImage,
+    SessionState, Tag,
 };
 use std::alloc::Global;
 
@@ -70,7 +71,7 @@ impl Host {
         ensures answer { IfOk result (DoesAnswer (install self.old.image name.now text.now) self.new) }
         ensures counts { OnOk result (Counts self.old.image self.new.image) }
     {
-        if name.bytes().len() > 64 {
+        if name.bytes().len() > NAME_LIMIT {
             return Ok(refused(alloc, Refusal::TooLong(2)));
         }
         if has_chart(&self.image, name.bytes()) {
@@ -94,10 +95,10 @@ impl Host {
         ensures answer { IfOk result (DoesAnswer (start self.old.image session.now chart.now) self.new) }
         ensures counts { OnOk result (Counts self.old.image self.new.image) }
     {
-        if session.bytes().len() > 64 {
+        if session.bytes().len() > NAME_LIMIT {
             return Ok(refused(alloc, Refusal::TooLong(1)));
         }
-        if chart.bytes().len() > 64 {
+        if chart.bytes().len() > NAME_LIMIT {
             return Ok(refused(alloc, Refusal::TooLong(2)));
         }
         if has_slash(session.bytes()) {
@@ -129,7 +130,7 @@ impl Host {
         ensures answer { IfOk result (DoesAnswer (post self.old.image session.now name.now pairs.now) self.new) }
         ensures counts { OnOk result (Counts self.old.image self.new.image) }
     {
-        if name.bytes().len() > 256 {
+        if name.bytes().len() > EVENT_NAME_LIMIT {
             return Ok(refused(alloc, Refusal::TooLong(3)));
         }
         let Some((place, found)) = session_named(&self.image, session.bytes()) else {

@@ -6,7 +6,7 @@ ghost use Rattle.sc_top.specs.FirstForm.{lacks, IsShortName, IsChartText, post_o
 ghost use Rattle.sc_top.specs.ScriptLines.{IsCut, IsChartLine, IsStartLine, IsPostLine, IsPosts};
 
 use crate::flat::read_flat_chart;
-use sc_types::{Bytes, Command, NoMemory, Plain, Sequence, Unfit, Word, is_plain_name};
+use sc_types::{Bytes, Command, NAME_LIMIT, NoMemory, Plain, Sequence, Unfit, Word, is_plain_name};
 use std::alloc::Global;
 
 /// The most bytes that a script may have.
@@ -183,7 +183,7 @@ fn read_short_name(alloc: Global, text: &[u8]) -> Result<Word, ScriptRefusal>
     ensures found { IfOk result (λ name. (name ≡ text.now) × IsShortName text.now) }
     ensures none { result ≡ Err ScriptRefusal.NotFirstForm → ¬ IsShortName text.now }
 {
-    if text.len() > 64 || !lacks(text, b'/') {
+    if text.len() > NAME_LIMIT || !lacks(text, b'/') {
         return Err(ScriptRefusal::NotFirstForm);
     }
     match Word::of(alloc, text) {

@@ -17,6 +17,7 @@ use Rattle.sc_types.specs.declared.expr.Op.TheVariants.{Or, And, Eq, Ne, Lt, Le,
 use Rattle.sc_types.specs.declared.token.Mark.TheVariants.{Not as Bang, Open, Close, OpenSquare, CloseSquare, Comma, Dot}
 use Rattle.sc_types.specs.declared.token.Token.{Token}
 use Rattle.sc_types.specs.declared.token.Token.TheVariants.{Word, Number, Text as Quoted, Operator, Mark as Sign}
+use Rattle.sc_types.specs.declared.limits.TheConstants.{EXPRESSION_LEVEL_LIMIT}
 
 -- how loosely an operator binds: 2 binds closest
 abbrev pub looseness : Op → ℕ
@@ -111,7 +112,7 @@ unfoldable pub has_fit_leaves : Expr → Bool
 has_fit_leaves e = fold-Expr Bool fits_step e
 
 pub record IsExpr (e : Expr) : Type 0 where
-  pub shallow : depth e ≤ 256
+  pub shallow : depth e ≤ EXPRESSION_LEVEL_LIMIT
   pub leaves : IsTrue (has_fit_leaves e)
 
 -- writing
@@ -186,8 +187,8 @@ mutual
 
 -- the text of an expression: at most 256 levels deep, with at most 256 brackets open at any place
 pub record IsExpression (text : List ℕ) (e : Expr) : Type 0 where
-  pub spelled : Spells 256 6 e (tokens false text)
-  pub shallow : depth e ≤ 256
+  pub spelled : Spells EXPRESSION_LEVEL_LIMIT 6 e (tokens false text)
+  pub shallow : depth e ≤ EXPRESSION_LEVEL_LIMIT
 
 -- how the texts of expressions are read: each gives the one expression that it spells, and nothing where it spells none
 abbrev pub IsReading : (List ℕ → Option Expr) → Type 0

@@ -13,6 +13,7 @@ use Rattle.sc_types.specs.declared.chart.Tag.{Tag}
 use Rattle.sc_types.specs.declared.chart.Tag.TheVariants.{Scxml, State, Transition, OnEntry, Log}
 use Rattle.sc_types.specs.declared.expr.Expr.{Expr}
 use Rattle.sc_types.specs.declared.expr.Expr.TheVariants.{Text}
+use Rattle.sc_base.specs.declared.text.TheConstants.{TEXT_LIMIT}
 
 abbrev pub is_empty : {A : Type 0} → List A → Bool
 is_empty [] = true
@@ -26,7 +27,7 @@ is_bare_byte b = nat_le 0x20 b && nat_le b 0x7e && not (b == 39) && not (b == 92
 
 -- a text literal whose text is printed without escapes
 abbrev pub is_bare_literal : Expr → Bool
-is_bare_literal (Text text) = nat_le (length text) 4096 && list_all is_bare_byte text
+is_bare_literal (Text text) = nat_le (length text) TEXT_LIMIT && list_all is_bare_byte text
 is_bare_literal code = false
 
 abbrev pub is_bare_code : Member → Bool

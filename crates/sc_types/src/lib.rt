@@ -31,12 +31,13 @@ pub use expr::{EventField, Expr, Op};
 pub use history::{Delivery, Entry, LogLine, Who};
 pub use host::{ChartImage, HostImage, InvokerImage, SessionImage, TimerImage, To};
 pub use limits::{
-    CHART_TEXT_LIMIT, DEFAULT_ROUNDS, DELAY_LIMIT, EVENT_NAME_LIMIT, ID_LIMIT, ITEM_LIMIT,
-    LEVEL_LIMIT, NAME_LIMIT, ROUND_LIMIT, SEND_TARGET_LIMIT, STATE_LIMIT, TYPE_NAME_LIMIT,
+    CHART_TEXT_LIMIT, DEFAULT_ROUNDS, DELAY_LIMIT, EVENT_NAME_LIMIT, EXPRESSION_LEVEL_LIMIT,
+    ID_LIMIT, ITEM_LIMIT, LEVEL_LIMIT, NAME_LIMIT, ROUND_LIMIT, SEND_TARGET_LIMIT, STATE_LIMIT,
+    TYPE_NAME_LIMIT,
 };
 pub use sc_base::{
-    Boxed, Bytes, Failure, Name, NoMemory, Plain, PlainName, Queue, Sequence, SmallBytes,
-    TextWriter, Unfit, Word, is_plain_name, is_text, is_word,
+    Boxed, Bytes, Failure, Name, NoMemory, PLAIN_NAME_LIMIT, Plain, PlainName, Queue, Sequence,
+    SmallBytes, TEXT_LIMIT, TextWriter, Unfit, Word, is_plain_name, is_text, is_word,
 };
 pub use session::{Cue, CueName, Histories, How, Invoked, Phase, SessionState, Values};
 pub use state_kind::StateKind;

@@ -31,5 +31,9 @@ pub const DEFAULT_ROUNDS: u32 = 1_000;
 /// The most items of a list.
 pub const ITEM_LIMIT: usize = 256;
 
+/// The most levels of an expression, of which a leaf is one, and the most brackets that may be open at a place of its
+/// text.
+pub const EXPRESSION_LEVEL_LIMIT: u32 = 256;
+
 /// The longest delay, in milliseconds.
 pub const DELAY_LIMIT: u64 = 1_000_000_000_000;

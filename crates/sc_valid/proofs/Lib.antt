@@ -1,2 +1,2 @@
-pub mod Commons
-pub mod Tables
+pub mod CommonLemmas
+pub mod TableLemmas

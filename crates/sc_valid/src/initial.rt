@@ -4,7 +4,7 @@ ghost use Rattle.std.specs.Option.{option_copied, option_map_or};
 ghost use Rattle.sc_types.specs.declared.chart.Tag.TheVariants as tag_name;
 ghost use Rattle.sc_law.specs.Nodes.{tag_of, is_tag, element, parent};
 ghost use Rattle.sc_law.specs.Tree.{is_atomic_element};
-ghost use Rattle.sc_law.specs.Legality.{is_default, only_default, default_ids, is_bad_member, are_bad_defaults, is_bad_element, is_bad_initial, is_bad_recorded, are_bad_recorded, is_bad_history, is_state_or_parallel, are_below, targets};
+ghost use Rattle.sc_law.specs.Legality.{is_default, names_none, only_default, default_ids, is_bad_member, are_bad_defaults, is_bad_element, is_bad_initial, is_bad_recorded, are_bad_recorded, is_bad_history, is_state_or_parallel, are_below, targets};
 ghost use Rattle.sc_valid.specs.Only.{only};
 
 use crate::index::{ChartIndex, parent};
@@ -37,9 +37,12 @@ impl<'c> ChartIndex<'c> {
     {
         let targets = self.targets(alloc, node.words(Attribute::Initial))?;
         Ok(match node.tag {
-            Tag::Scxml => !self.all_orthogonal(targets.slice()),
+            Tag::Scxml => {
+                names_none(Attribute::Initial, node) || !self.all_orthogonal(targets.slice())
+            }
             Tag::State => {
-                !has_states(node)
+                names_none(Attribute::Initial, node)
+                    || !has_states(node)
                     || has_kid(Tag::Initial, node)
                     || !are_below(path, targets.slice())
                     || !self.all_orthogonal(targets.slice())
@@ -170,5 +173,12 @@ fn is_default(transition: &Node) -> bool
 {
     !transition.has(Attribute::Event)
         && !transition.has(Attribute::Cond)
-        && transition.has(Attribute::Target)
+        && !names_none(Attribute::Target, transition)
+}
+
+/// Whether a list of names is empty, as in no chart that a text spells.
+fn names_none(attribute: Attribute, node: &Node) -> bool
+    ensures { result ≡ names_none attribute node.now }
+{
+    node.words(attribute).is_empty()
 }

@@ -17,7 +17,7 @@ use Rattle.sc_types.specs.declared.chart.ChartFault.{ChartFault}
 use Rattle.sc_types.specs.declared.expr.Expr.{Expr}
 use Rattle.sc_expr.specs.Reading.{expr_of}
 use Rattle.sc_expr.proofs.Grammar.{spelled_reads}
-use Rattle.sc_expr.proofs.Limits.{within_limits}
+use Rattle.sc_expr.proofs.LimitLemmas.{within_limits}
 use Rattle.sc_expr.proofs.Printed.{printed_is_expression}
 use Rattle.sc_expr.proofs.Whole.{is_reading}
 use Rattle.sc_chart_json.proofs.Printed.Depths.{printed_shallow, no_float}

@@ -248,7 +248,7 @@ fn kept(
 }
 
 /// The transitions that a microstep takes: for an event, given by its name, or without one.
-#[tactic(auto, using(crate::proofs::Histories::kept_from_any))]
+#[tactic(auto, using(crate::proofs::HistoryLemmas::kept_from_any))]
 pub(crate) fn select(
     alloc: Global,
     tree: &Tree,

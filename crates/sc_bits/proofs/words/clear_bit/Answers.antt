@@ -1,5 +1,5 @@
 use Rattle.std.proofs.Common.{refl}
-use Rattle.sc_bits.proofs.Bits.{bit_of-clear_bit}
+use Rattle.sc_bits.proofs.BitLemmas.{bit_of-clear_bit}
 use Rattle.sc_bits.proofs.words.clear_bit.Goals as goal
 
 pub returns : goal.returns

@@ -1,5 +1,5 @@
 use Rattle.std.proofs.Common.{arith}
-use Rattle.sc_bits.proofs.Bits.{bit_of-and}
+use Rattle.sc_bits.proofs.BitLemmas.{bit_of-and}
 use Rattle.sc_bits.proofs.words.meet_words.Goals as goal
 
 pub returns : goal.returns

@@ -1,6 +1,6 @@
 use Rattle.std.proofs.Common.{◌*◌, ◌/◌, ◌%◌, ◌^◌, ◌-◌, get_or, arith, refl}
 use Rattle.std.proofs.lemmas.Nat.{and_le_l}
-use Rattle.sc_bits.proofs.NextBit.{rest-zero, rest-next, word-next}
+use Rattle.sc_bits.proofs.NextBitLemmas.{rest-zero, rest-next, word-next}
 use Rattle.sc_bits.proofs.words.next_bit.Goals as goal
 
 pub returns-then-rest-ne0 : goal.returns-then-rest-ne0

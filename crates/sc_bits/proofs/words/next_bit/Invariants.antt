@@ -1,5 +1,5 @@
 use Rattle.std.proofs.Common.{◌*◌}
-use Rattle.sc_bits.proofs.NextBit.{NoneBetween}
+use Rattle.sc_bits.proofs.NextBitLemmas.{NoneBetween}
 use Rattle.sc_bits.proofs.words.next_bit.Given as goal
 
 abbrev pub invariant-loop-place : goal.invariant-loop-place

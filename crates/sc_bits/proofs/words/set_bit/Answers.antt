@@ -1,5 +1,5 @@
 use Rattle.std.proofs.Common.{refl}
-use Rattle.sc_bits.proofs.Bits.{bit_of-set_bit}
+use Rattle.sc_bits.proofs.BitLemmas.{bit_of-set_bit}
 use Rattle.sc_bits.proofs.words.set_bit.Goals as goal
 
 pub returns : goal.returns

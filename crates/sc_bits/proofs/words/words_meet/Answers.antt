@@ -1,6 +1,6 @@
 use Rattle.std.proofs.Common.{get_or, arith}
 use Rattle.std.proofs.lemmas.Nat.{and_le_l}
-use Rattle.sc_bits.proofs.Bits.{bits-none, bits-common}
+use Rattle.sc_bits.proofs.BitLemmas.{bits-none, bits-common}
 use Rattle.sc_bits.proofs.words.words_meet.Goals as goal
 
 pub returns-then-words-i-ne0 : goal.returns-then-words-i-ne0

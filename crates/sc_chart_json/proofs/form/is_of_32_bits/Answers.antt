@@ -1,6 +1,6 @@
 use Rattle.std.proofs.Common.{◌∙◌, ap}
 use Rattle.sc_types.specs.Delays.{are_digits}
-use Rattle.sc_chart_json.proofs.Digits.{is_ok-parsed, no_digits}
+use Rattle.sc_chart_json.proofs.DigitLemmas.{is_ok-parsed, no_digits}
 use Rattle.sc_chart_json.proofs.form.is_of_32_bits.Goals as goal
 
 pub returns-in-Ok : goal.returns-in-Ok

@@ -1,7 +1,7 @@
 use Rattle.std.proofs.Common.{true, ◌∙◌, ap}
 use Rattle.std.specs.Option.{option_map_or}
 use Rattle.sc_types.specs.ChartTexts.{are_known}
-use Rattle.sc_chart_json.proofs.Keys.{are_known-entries}
+use Rattle.sc_chart_json.proofs.KeyLemmas.{are_known-entries}
 use Rattle.sc_chart_json.proofs.members.has_known_members.Goals as goal
 
 pub returns-in-Some : goal.returns-in-Some

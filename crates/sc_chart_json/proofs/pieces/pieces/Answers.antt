@@ -1,6 +1,6 @@
 use Rattle.std.proofs.Common.{◌+◌, ◌++◌, ◌∙◌, sym, ap, arith, append_assoc, length-drop}
 use Rattle.std.proofs.lemmas.List.{take_rest}
-use Rattle.sc_chart_json.proofs.Splits.{pieces-first, pieces-only}
+use Rattle.sc_chart_json.proofs.SplitLemmas.{pieces-first, pieces-only}
 use Rattle.sc_chart_json.proofs.pieces.pieces.Goals as goal
 
 pub loop-place-preserved : goal.loop-place-preserved

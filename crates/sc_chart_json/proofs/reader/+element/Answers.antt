@@ -4,7 +4,7 @@ use Rattle.serde_json.specs.View.{items_view}
 use Rattle.sc_types.specs.ChartTexts.{kid_places, places}
 use Rattle.std.proofs.Common.{◌-◌, length}
 use Rattle.sc_chart_json.specs.Walking.{Stops, AreRead, AreReading}
-use Rattle.sc_chart_json.proofs.Walks.{element_stops, element_read, kid_stops, kid_read, popped}
+use Rattle.sc_chart_json.proofs.WalkLemmas.{element_stops, element_read, kid_stops, kid_read, popped}
 use Rattle.sc_chart_json.proofs.reader.+element.Goals as goal
 
 pub read_element-returns-in_err-read_kids-clause-fault : goal.read_element-returns-in_err-read_kids-clause-fault

@@ -1,5 +1,5 @@
 use Rattle.std.proofs.Common.{rules}
-use Rattle.sc_chart_json.proofs.Wholes.{faulty}
+use Rattle.sc_chart_json.proofs.WholeLemmas.{faulty}
 use Rattle.sc_chart_json.proofs.reader.read_chart.Goals as goal
 
 pub returns-in-Ok-clause-fault : goal.returns-in-Ok-clause-fault

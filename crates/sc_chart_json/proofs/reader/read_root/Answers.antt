@@ -1,5 +1,5 @@
 use Rattle.std.proofs.Common.{rules}
-use Rattle.sc_chart_json.proofs.Walks.{root_stops, root_read}
+use Rattle.sc_chart_json.proofs.WalkLemmas.{root_stops, root_read}
 use Rattle.sc_chart_json.proofs.reader.read_root.Goals as goal
 
 pub returns-in_err-read_element-clause-fault : goal.returns-in_err-read_element-clause-fault

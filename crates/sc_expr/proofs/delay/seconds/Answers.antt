@@ -1,6 +1,6 @@
 use Rattle.std.proofs.Common.{◌∙◌, ap, take}
 use Rattle.sc_types.specs.Delays.{are_digits}
-use Rattle.sc_expr.proofs.Delays.{digits_front}
+use Rattle.sc_expr.proofs.DelayLemmas.{digits_front}
 use Rattle.sc_expr.proofs.delay.seconds.Goals as goal
 
 pub seconds_of-requires : goal.seconds_of-requires

@@ -1,6 +1,6 @@
 use Rattle.std.proofs.Common.{◌∙◌, sym, length}
-use Rattle.sc_expr.proofs.Delays.{short_digits, short_bound}
-use Rattle.sc_expr.proofs.Runs.{is_above}
+use Rattle.sc_expr.proofs.DelayLemmas.{short_digits, short_bound}
+use Rattle.sc_expr.proofs.RunLemmas.{is_above}
 use Rattle.sc_expr.proofs.delay.short_number.Goals as goal
 
 pub returns-else-is_empty-clause-value : goal.returns-else-is_empty-clause-value

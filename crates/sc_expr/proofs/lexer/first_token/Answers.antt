@@ -1,6 +1,6 @@
 use Rattle.std.proofs.Common.{◌∙◌, sym}
 use Rattle.std.proofs.lemmas.Result.{IfOk-weaker}
-use Rattle.sc_expr.proofs.Lexing.{first_quoted, first_run, first_negative, first_sign}
+use Rattle.sc_expr.proofs.LexingLemmas.{first_quoted, first_run, first_negative, first_sign}
 use Rattle.sc_expr.proofs.lexer.first_token.Goals as goal
 
 pub returns-then-is_quote : goal.returns-then-is_quote

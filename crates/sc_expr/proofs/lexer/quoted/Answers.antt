@@ -1,5 +1,5 @@
 use Rattle.std.proofs.Common.{◌∙◌, sym}
-use Rattle.sc_expr.proofs.Quotes.{at_quote, at_last_escape, at_no_escape, at_escape, at_plain, at_control, at_end}
+use Rattle.sc_expr.proofs.QuoteLemmas.{at_quote, at_last_escape, at_no_escape, at_escape, at_plain, at_control, at_end}
 use Rattle.sc_expr.proofs.lexer.quoted.Goals as goal
 
 pub returns-then-byte-quote : goal.returns-then-byte-quote

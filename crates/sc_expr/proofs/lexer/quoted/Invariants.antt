@@ -1,6 +1,6 @@
 use Rattle.std.proofs.Common.{◌≡◌, length}
 use Rattle.sc_types.specs.Tokens.{quoted}
-use Rattle.sc_expr.proofs.Quotes.{after}
+use Rattle.sc_expr.proofs.QuoteLemmas.{after}
 use Rattle.sc_expr.proofs.lexer.quoted.Given as goal
 
 abbrev pub invariant-loop-rest : goal.invariant-loop-rest

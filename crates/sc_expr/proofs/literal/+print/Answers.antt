@@ -2,7 +2,7 @@ use Rattle.std.proofs.Common.{◌∙◌, ◌++◌, ap}
 use Rattle.std.proofs.lemmas.Result.{IfOk-weaker}
 use Rattle.sc_types.specs.Values.{value_text}
 use Rattle.sc_expr.specs.Literals.{comma}
-use Rattle.sc_expr.proofs.Literals.{next_text, closed_text}
+use Rattle.sc_expr.proofs.LiteralLemmas.{next_text, closed_text}
 use Rattle.sc_expr.proofs.literal.+print.Goals as goal
 
 pub put_values-loop-i-preserved : goal.put_values-loop-i-preserved

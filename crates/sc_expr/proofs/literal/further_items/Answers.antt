@@ -2,7 +2,7 @@ use Rattle.std.proofs.Common.{◌≡◌, ◌∷◌, ◌∙◌, arith}
 use Rattle.std.proofs.lemmas.Grind.{common_steps}
 use Rattle.sc_types.specs.declared.token.Mark.TheVariants.{Comma}
 use Rattle.sc_types.specs.declared.token.Token.TheVariants.{Mark as Sign}
-use Rattle.sc_expr.proofs.Literals.{at_comma, no_item, an_item}
+use Rattle.sc_expr.proofs.LiteralLemmas.{at_comma, no_item, an_item}
 use Rattle.sc_expr.proofs.literal.further_items.Goals as goal
 
 pub returns-in_err-read_item-clause-refused : goal.returns-in_err-read_item-clause-refused

@@ -1,5 +1,5 @@
 use Rattle.std.proofs.Common.{◌∙◌, sym}
-use Rattle.sc_expr.proofs.Numbers.{number_plain, number_with_zero}
+use Rattle.sc_expr.proofs.NumberLemmas.{number_plain, number_with_zero}
 use Rattle.sc_expr.proofs.number.number_of.Goals as goal
 
 pub returns-then-has_leading_zero : goal.returns-then-has_leading_zero

@@ -1,5 +1,5 @@
 use Rattle.std.proofs.Common.{◌∙◌, sym, ap}
-use Rattle.sc_expr.proofs.Numbers.{parsed, no_text}
+use Rattle.sc_expr.proofs.NumberLemmas.{parsed, no_text}
 use Rattle.sc_types.specs.Delays.{are_digits}
 use Rattle.sc_expr.specs.Numbers.{digits_number}
 use Rattle.sc_expr.proofs.number.read_digits.Goals as goal

@@ -1,6 +1,6 @@
 use Rattle.std.proofs.Common.{rules, append_assoc}
 use Rattle.sc_types.specs.Expressions.{expr_text}
-use Rattle.sc_expr.proofs.Joined.{joined_first, joined_next}
+use Rattle.sc_expr.proofs.JoinedLemmas.{joined_first, joined_next}
 use Rattle.sc_expr.proofs.writer.+print.Goals as goal
 use Rattle.sc_expr.proofs.writer.+print.Goals.{put_list-then-i-gt0+in_ok-text-2, put_list-else-i-gt0}
 

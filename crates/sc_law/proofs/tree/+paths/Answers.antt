@@ -1,6 +1,6 @@
 use Rattle.std.proofs.Common.{arith}
 use Rattle.std.proofs.lemmas.Grind.{common_steps}
-use Rattle.sc_law.proofs.Paths.{elements_from_node}
+use Rattle.sc_law.proofs.PathLemmas.{elements_from_node}
 use Rattle.sc_law.proofs.tree.+paths.Goals as goal
 
 pub returns : goal.returns

@@ -1,6 +1,6 @@
 use Rattle.std.proofs.Common.{◌≡◌, ◌++◌, drop, map}
 use Rattle.sc_law.specs.Nodes.{elements_from}
-use Rattle.sc_law.proofs.Paths.{paths_of_kids}
+use Rattle.sc_law.proofs.PathLemmas.{paths_of_kids}
 use Rattle.sc_law.proofs.tree.+paths.Given as goal
 
 abbrev pub invariant-loop-place : goal.invariant-loop-place

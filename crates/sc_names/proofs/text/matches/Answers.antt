@@ -1,5 +1,5 @@
 use Rattle.std.proofs.Common.{◌∙◌, sym, arith}
-use Rattle.sc_names.proofs.Pieces.{matches-last, matches-next, or-no, or-yes, solid-more}
+use Rattle.sc_names.proofs.PieceLemmas.{matches-last, matches-next, or-no, or-yes, solid-more}
 use Rattle.sc_names.proofs.text.matches.Goals as goal
 use Rattle.sc_names.proofs.text.matches.Goals.{then-is_white_space+else-is_match, else-is_white_space}
 

@@ -1,7 +1,7 @@
 use Rattle.std.proofs.Common.{◌<◌, ◌≤◌, length, refl, arith, ◌∙◌}
 use Rattle.slab.specs.Slab.{get as send_at}
 use Rattle.std.proofs.lemmas.Grind.{get_or_default_zero}
-use Rattle.sc_timers.proofs.Sweep.{sweep-starts, sweep-more, sweep-ends}
+use Rattle.sc_timers.proofs.SweepLemmas.{sweep-starts, sweep-more, sweep-ends}
 use Rattle.sc_timers.proofs.removal.remove_sends.Goals as goal
 
 pub loop-place-init : goal.loop-place-init

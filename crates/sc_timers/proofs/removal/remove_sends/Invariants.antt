@@ -1,7 +1,7 @@
 use Rattle.std.proofs.Common.{◌≡◌, ◌≤◌}
 use Rattle.slab.specs.Slab.{get as send_at, slab_len}
 use Rattle.sc_timers.specs.Order.{picks}
-use Rattle.sc_timers.proofs.Sweep.{Sweeps}
+use Rattle.sc_timers.proofs.SweepLemmas.{Sweeps}
 use Rattle.sc_timers.proofs.removal.remove_sends.Given as goal
 
 abbrev pub invariant-loop-place : goal.invariant-loop-place

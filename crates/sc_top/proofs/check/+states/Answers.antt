@@ -1,6 +1,6 @@
 use Rattle.std.proofs.Common.{arith}
 use Rattle.std.proofs.lemmas.Grind.{common_steps}
-use Rattle.sc_top.proofs.StateCounts.{states_in_node}
+use Rattle.sc_top.proofs.StateCountLemmas.{states_in_node}
 use Rattle.sc_top.proofs.check.+states.Goals as goal
 
 pub returns : goal.returns

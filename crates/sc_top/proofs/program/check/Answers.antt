@@ -1,7 +1,7 @@
 use Rattle.std.proofs.Common.{sym, rules}
 use Rattle.sc_dev.specs.Causes.{Rose}
 use Rattle.sc_top.specs.Promise.{chart_read, check, read_fault}
-use Rattle.sc_top.proofs.Sayings.{check_says, told_text}
+use Rattle.sc_top.proofs.SayingLemmas.{check_says, told_text}
 use Rattle.sc_top.proofs.program.check.Goals as goal
 
 pub returns-in-Ok-clause-says : goal.returns-in-Ok-clause-says

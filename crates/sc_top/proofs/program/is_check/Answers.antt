@@ -1,5 +1,5 @@
 use Rattle.std.proofs.Common.{◌≡◌, [], ◌∷◌, map, string_bytes, codes, sym, ap, ◌∙◌, arith, rules}
-use Rattle.sc_top.proofs.Scripts.{one_item}
+use Rattle.sc_top.proofs.ScriptLemmas.{one_item}
 use Rattle.sc_top.proofs.program.is_check.Goals as goal
 
 pub returns-in-len1 : goal.returns-in-len1

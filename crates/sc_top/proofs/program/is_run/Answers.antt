@@ -1,5 +1,5 @@
 use Rattle.std.proofs.Common.{◌≡◌, [], ◌∷◌, map, string_bytes, codes, sym, ap, ◌∙◌, arith, rules}
-use Rattle.sc_top.proofs.Scripts.{three_items}
+use Rattle.sc_top.proofs.ScriptLemmas.{three_items}
 use Rattle.sc_top.proofs.program.is_run.Goals as goal
 
 pub returns-else-ne-2 : goal.returns-else-ne-2

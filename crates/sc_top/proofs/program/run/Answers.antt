@@ -1,7 +1,7 @@
 use Rattle.std.proofs.Common.{sym, rules}
 use Rattle.sc_dev.specs.Causes.{Rose}
 use Rattle.sc_top.specs.Promise.{script_read, run, read_fault}
-use Rattle.sc_top.proofs.Sayings.{run_says, told_text}
+use Rattle.sc_top.proofs.SayingLemmas.{run_says, told_text}
 use Rattle.sc_top.proofs.program.run.Goals as goal
 
 pub returns-in-Ok-clause-says : goal.returns-in-Ok-clause-says

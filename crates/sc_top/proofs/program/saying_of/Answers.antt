@@ -1,6 +1,6 @@
 use Rattle.std.proofs.Common.{map, string_bytes, rules}
 use Rattle.sc_top.specs.Promise.{IsRunWords, IsCheckWords, other_words}
-use Rattle.sc_top.proofs.Sayings.{no_command}
+use Rattle.sc_top.proofs.SayingLemmas.{no_command}
 use Rattle.sc_top.proofs.program.saying_of.Goals as goal
 
 pub returns-clause-says : goal.returns-clause-says

@@ -3,7 +3,7 @@ use Rattle.std.proofs.lemmas.List.{drop_all}
 use Rattle.sc_types.specs.declared.command.Command.{Command}
 use Rattle.sc_types.specs.declared.host.HostImage.{HostImage}
 use Rattle.sc_top.specs.Running.{IsUnderWay}
-use Rattle.sc_top.proofs.Runs.{goes_by_command, underway_begins, underway_goes, underway_ends}
+use Rattle.sc_top.proofs.RunLemmas.{goes_by_command, underway_begins, underway_goes, underway_ends}
 use Rattle.sc_top.proofs.run.run_script.Goals as goal
 
 pub loop-command-init : goal.loop-command-init

@@ -1,4 +1,4 @@
-use Rattle.sc_top.proofs.Prefixes.{stripped}
+use Rattle.sc_top.proofs.PrefixLemmas.{stripped}
 use Rattle.sc_top.proofs.script_reader.after.Goals as goal
 
 pub returns : goal.returns

@@ -1,6 +1,6 @@
 use Rattle.std.proofs.Common.{sym, ◌∙◌}
 use Rattle.std.proofs.lemmas.List.{take_rest}
-use Rattle.sc_top.proofs.Places.{cut_there, lacks_it}
+use Rattle.sc_top.proofs.PlaceLemmas.{cut_there, lacks_it}
 use Rattle.sc_top.proofs.script_reader.cut.Goals as goal
 
 pub returns-in_err-place : goal.returns-in_err-place

@@ -1,6 +1,6 @@
 use Rattle.std.proofs.Common.{◌≡◌, IsTrue, false, subst}
 use Rattle.sc_base.specs.Text.{IsPlainName}
-use Rattle.sc_top.proofs.Lines.{post_line_words}
+use Rattle.sc_top.proofs.LineLemmas.{post_line_words}
 use Rattle.sc_top.proofs.script_reader.event_after.Goals as goal
 
 pub returns-in_err-event : goal.returns-in_err-event

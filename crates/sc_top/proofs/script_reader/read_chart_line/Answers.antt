@@ -1,7 +1,7 @@
 use Rattle.std.proofs.Common.{◌≡◌, Err, ap}
 use Rattle.std.proofs.lemmas.Result.{err_from_is_err_and}
 use Rattle.sc_top.specs.declared.script_reader.ScriptRefusal.TheVariants.{NotFirstForm}
-use Rattle.sc_top.proofs.Lines.{chart_line_parts}
+use Rattle.sc_top.proofs.LineLemmas.{chart_line_parts}
 use Rattle.sc_top.proofs.script_reader.read_chart_line.Goals as goal
 
 pub returns-in_err-name-clause-none : goal.returns-in_err-name-clause-none

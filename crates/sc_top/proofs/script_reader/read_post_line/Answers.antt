@@ -1,5 +1,5 @@
 use Rattle.std.proofs.Common.{Err, ap}
-use Rattle.sc_top.proofs.Names.{plain_word}
+use Rattle.sc_top.proofs.NameLemmas.{plain_word}
 use Rattle.sc_top.proofs.script_reader.read_post_line.Goals as goal
 
 pub returns-in-Err-Form-clause-none : goal.returns-in-Err-Form-clause-none

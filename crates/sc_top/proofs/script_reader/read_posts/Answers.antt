@@ -4,8 +4,8 @@ use Rattle.std.proofs.lemmas.List.Elements.{All-push}
 use Rattle.std.proofs.lemmas.Result.{err_from_is_err_and}
 use Rattle.sc_base.specs.Text.{IsPlainName}
 use Rattle.sc_top.specs.declared.script_reader.ScriptRefusal.TheVariants.{NotFirstForm}
-use Rattle.sc_top.proofs.Cuts.{no_cut, same_cut}
-use Rattle.sc_top.proofs.Posts.{next, posts_more, commands_more}
+use Rattle.sc_top.proofs.CutLemmas.{no_cut, same_cut}
+use Rattle.sc_top.proofs.PostLemmas.{next, posts_more, commands_more}
 use Rattle.sc_top.proofs.script_reader.read_posts.Goals as goal
 
 pub returns-in_default-clause-none : goal.returns-in_default-clause-none

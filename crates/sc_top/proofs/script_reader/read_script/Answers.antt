@@ -2,8 +2,8 @@ use Rattle.std.proofs.Common.{◌≡◌, List, Err, IfOk, ap, subst, arith}
 use Rattle.std.proofs.lemmas.Result.{err_from_is_err_and}
 use Rattle.sc_types.specs.declared.command.Command.{Command}
 use Rattle.sc_top.specs.declared.script_reader.ScriptRefusal.TheVariants.{NotFirstForm}
-use Rattle.sc_top.proofs.Cuts.{no_cut}
-use Rattle.sc_top.proofs.Forms.{AddsPosts, opening_of, first_of, second_of, rest_of, found, only}
+use Rattle.sc_top.proofs.CutLemmas.{no_cut}
+use Rattle.sc_top.proofs.FormLemmas.{AddsPosts, opening_of, first_of, second_of, rest_of, found, only}
 use Rattle.sc_top.proofs.script_reader.read_script.Goals as goal
 
 pub returns-in_default-cut-clause-none : goal.returns-in_default-cut-clause-none

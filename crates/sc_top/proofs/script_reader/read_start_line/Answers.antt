@@ -1,6 +1,6 @@
 use Rattle.std.proofs.Common.{sym, ◌∙◌}
-use Rattle.sc_top.proofs.Lines.{start_line_parts, start_line_found}
-use Rattle.sc_top.proofs.Prefixes.{texts_same, texts_differ}
+use Rattle.sc_top.proofs.LineLemmas.{start_line_parts, start_line_found}
+use Rattle.sc_top.proofs.PrefixLemmas.{texts_same, texts_differ}
 use Rattle.sc_top.proofs.script_reader.read_start_line.Goals as goal
 
 pub returns-then-ne-clause-none : goal.returns-then-ne-clause-none

@@ -1,5 +1,5 @@
 use Rattle.std.proofs.Common.{rules}
-use Rattle.sc_valid.proofs.Commons.{first_ends, second_ends, they_part}
+use Rattle.sc_valid.proofs.CommonLemmas.{first_ends, second_ends, they_part}
 use Rattle.sc_valid.proofs.target.common.Goals as goal
 use Rattle.sc_valid.proofs.target.common.Goals.{then-loop-count-test+then-count-b+else-a-count, then-loop-count-test+else-count-b, else-loop-count-test}
 

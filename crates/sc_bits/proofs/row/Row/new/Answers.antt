@@ -1,4 +1,4 @@
-use Rattle.sc_bits.proofs.Bits.{bit_of-zeros}
+use Rattle.sc_bits.proofs.BitLemmas.{bit_of-zeros}
 use Rattle.sc_bits.proofs.RowLemmas.{same_row, members-none}
 use Rattle.sc_bits.proofs.row.Row.new.Goals as goal
 

@@ -1,6 +1,6 @@
 use Rattle.std.proofs.Common.{ap, length, arith}
 use Rattle.sc_bits.proofs.RowLemmas.{next-member, next-within}
-use Rattle.sc_bits.proofs.Numbers.{numbers-ascending}
+use Rattle.sc_bits.proofs.NumberLemmas.{numbers-ascending}
 use Rattle.sc_bits.specs.Words.{bit_of}
 use Rattle.sc_bits.proofs.row.Row.next.Goals as goal
 

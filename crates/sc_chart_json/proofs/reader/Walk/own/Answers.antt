@@ -1,5 +1,5 @@
 use Rattle.std.proofs.Common.{rules}
-use Rattle.sc_chart_json.proofs.Faults.{unknown_member, bad_member, bad_expr, too_many}
+use Rattle.sc_chart_json.proofs.FaultLemmas.{unknown_member, bad_member, bad_expr, too_many}
 use Rattle.sc_chart_json.proofs.reader.Walk.own.Goals as goal
 
 pub returns-then-not-has_known_members-clause-fault : goal.returns-then-not-has_known_members-clause-fault

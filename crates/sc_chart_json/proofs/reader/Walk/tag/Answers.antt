@@ -1,5 +1,5 @@
 use Rattle.std.proofs.Common.{rules}
-use Rattle.sc_chart_json.proofs.Faults.{too_deep}
+use Rattle.sc_chart_json.proofs.FaultLemmas.{too_deep}
 use Rattle.sc_chart_json.proofs.reader.Walk.tag.Goals as goal
 
 pub returns-then-len-ge-LEVEL_LIMIT-clause-fault : goal.returns-then-len-ge-LEVEL_LIMIT-clause-fault

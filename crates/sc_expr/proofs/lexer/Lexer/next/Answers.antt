@@ -1,5 +1,5 @@
 use Rattle.std.proofs.Common.{◌∙◌, sym}
-use Rattle.sc_expr.proofs.Lexing.{at_end, at_token}
+use Rattle.sc_expr.proofs.LexingLemmas.{at_end, at_token}
 use Rattle.sc_expr.proofs.lexer.Lexer.next.Goals as goal
 
 pub returns-then-is_empty-clause-ok : goal.returns-then-is_empty-clause-ok

@@ -2,7 +2,7 @@ use Rattle.std.proofs.Common.{rules, ◌≡◌, ◌-◌, nat_lt, None, [], ◌�
 use Rattle.std.proofs.lemmas.Result.{IfOk-weaker}
 use Rattle.sc_types.specs.Expressions.{depth, deepest}
 use Rattle.sc_expr.specs.Descent.{loose_at, inside}
-use Rattle.sc_expr.proofs.Levels.{loose_result, chain_stops, chain_last, chain_refused, chain_too_deep, postfix_result, index_unclosed, index_too_deep, deepest-push, list_made, list_too_deep, list_step}
+use Rattle.sc_expr.proofs.LevelLemmas.{loose_result, chain_stops, chain_last, chain_refused, chain_too_deep, postfix_result, index_unclosed, index_too_deep, deepest-push, list_made, list_too_deep, list_step}
 use Rattle.sc_expr.proofs.reader.Reader.+descend.Goals as goal
 use Rattle.sc_expr.proofs.reader.Reader.+descend.Goals.{loose-in-Some+in_ok-skip+in_ok-right+in_ok-left-2+then-not-repeats, loose-in_default}
 

@@ -1,7 +1,7 @@
 use Rattle.std.proofs.Common.{◌≡◌, ◌+◌, ◌-◌, ◌*◌, ◌≤◌, nat_lt, map, length, Some}
 use Rattle.sc_types.specs.Expressions.{depth, deepest}
 use Rattle.sc_expr.specs.Descent.{chained_from, indexed_from, prefixed, postfix, all_prefixed, inside, loose_at}
-use Rattle.sc_expr.proofs.Levels.{Keeps}
+use Rattle.sc_expr.proofs.LevelLemmas.{Keeps}
 use Rattle.sc_expr.proofs.reader.Reader.+descend.Given as goal
 
 -- fewer brackets may be opened inside brackets; with the same number the descent goes inwards

@@ -1,7 +1,7 @@
 use Rattle.std.proofs.Common.{◌≡◌, ◌<◌, true, Some, None, is_some, sym, ap, ◌∙◌, arith, rules}
 use Rattle.sc_law.specs.declared.flat.run_state.RunState.{RunState}
 use Rattle.sc_law.specs.Flat.Turn.{next_round, start_invokes}
-use Rattle.sc_law.proofs.Rounds.{settle_rests, settle_counts, settle_at_end}
+use Rattle.sc_law.proofs.RoundLemmas.{settle_rests, settle_counts, settle_at_end}
 use Rattle.sc_law.proofs.flat.interpreter.settle.Goals as goal
 
 pub returns-then-not-branch : goal.returns-then-not-branch

@@ -2,7 +2,7 @@ use Rattle.std.proofs.Common.{◌≡◌, ◌≢◌, [], sym, ap, ◌∙◌, rule
 use Rattle.sc_law.specs.Flat.Sets.{exit_set}
 use Rattle.sc_law.specs.Flat.Entry.{entry}
 use Rattle.sc_law.specs.Flat.Microstep.{exit_states, enter, run_contents}
-use Rattle.sc_law.proofs.Histories.{microstep_taken}
+use Rattle.sc_law.proofs.HistoryLemmas.{microstep_taken}
 use Rattle.sc_law.proofs.flat.microstep.microstep.Goals as goal
 
 pub returns : goal.returns

@@ -1,6 +1,6 @@
 use Rattle.std.proofs.Common.{◌≡◌, ◌+◌, ◌-◌, ◌/◌, length, arith, ◌∙◌}
 use Rattle.sc_types.specs.Sends.{IsInDueOrder}
-use Rattle.sc_timers.proofs.Places.{narrows-low, narrows-high}
+use Rattle.sc_timers.proofs.PlaceLemmas.{narrows-low, narrows-high}
 use Rattle.sc_timers.proofs.SendLemmas.{dues_of, dues-sorted, length-dues, length-sends}
 use Rattle.sc_timers.proofs.timers.Timers.place_after.Goals as goal
 

@@ -1,5 +1,5 @@
 use Rattle.std.proofs.Common.{◌-◌}
-use Rattle.sc_timers.proofs.Places.{Narrows}
+use Rattle.sc_timers.proofs.PlaceLemmas.{Narrows}
 use Rattle.sc_timers.proofs.SendLemmas.{dues_of}
 use Rattle.sc_timers.proofs.timers.Timers.place_after.Given as goal
 

@@ -1,6 +1,6 @@
 use Rattle.std.proofs.Common.{length, arith, ap}
 use Rattle.slab.specs.Slab.{get as send_at}
-use Rattle.sc_timers.proofs.Sweep.{sends-left, count-left, kept-left}
+use Rattle.sc_timers.proofs.SweepLemmas.{sends-left, count-left, kept-left}
 use Rattle.sc_timers.proofs.timers.Timers.remove_picked.Goals as goal
 
 pub invariant_of-self : goal.invariant_of-self

@@ -1,5 +1,5 @@
 use Rattle.std.proofs.Common.{sym, ◌∙◌}
-use Rattle.sc_valid.proofs.Tables.{put_new}
+use Rattle.sc_valid.proofs.TableLemmas.{put_new}
 use Rattle.sc_valid.proofs.firsts.Firsts.put.Goals as goal
 
 pub returns : goal.returns

@@ -1,5 +1,5 @@
 use Rattle.std.proofs.Common.{rules}
-use Rattle.sc_valid.proofs.Tables.{one_more}
+use Rattle.sc_valid.proofs.TableLemmas.{one_more}
 use Rattle.sc_valid.proofs.index.ChartIndex.new.Goals as goal
 
 pub loop-path-preserved : goal.loop-path-preserved

@@ -4,7 +4,7 @@ use Rattle.std.proofs.lemmas.Bool.{cases_lt}
 use Rattle.std.proofs.lemmas.Nat.Bits.{bit_at-zero, bit_at-lt, bit_at_and, bit_at-trailing_zeros, bit_at_mask_inside, bit_at_mask_below, ones_shl}
 use Rattle.std.specs.Int.{bit_at, w64, trailing_zeros}
 use Rattle.sc_bits.specs.Words.{bit_of, IsNextBit}
-use Rattle.sc_bits.proofs.Bits.{is_one-zero, is_one-one, bit_of-at}
+use Rattle.sc_bits.proofs.BitLemmas.{is_one-zero, is_one-one, bit_of-at}
 
 -- no bit is set from `from` up to `to`
 abbrev pub NoneBetween : List ℕ → ℕ → ℕ → Type 0

@@ -12,7 +12,7 @@ use Rattle.sc_types.specs.declared.token.Mark.{Mark}
 use Rattle.sc_types.specs.declared.token.Mark.TheVariants as mark
 use Rattle.sc_types.specs.declared.token.Token.{Token}
 use Rattle.sc_types.specs.declared.token.Token.TheVariants.{Text, Bad}
-use Rattle.sc_expr.proofs.Runs.{is_zero, is_above}
+use Rattle.sc_expr.proofs.RunLemmas.{is_zero, is_above}
 
 -- ---- what a token leaves
 

@@ -7,8 +7,8 @@ use Rattle.sc_types.specs.declared.command.Command.TheVariants.{Install, Start}
 use Rattle.sc_law.specs.Lines.{command_text}
 use Rattle.sc_top.specs.FirstForm.{lacks, IsShortName, IsChartText, post_of}
 use Rattle.sc_top.specs.ScriptLines.{IsCut, IsChartLine, IsStartLine, IsPostLine}
-use Rattle.sc_top.proofs.Cuts.{same_cut}
-use Rattle.sc_top.proofs.Names.{word_lacks, plain_word, lacks-append}
+use Rattle.sc_top.proofs.CutLemmas.{same_cut}
+use Rattle.sc_top.proofs.NameLemmas.{word_lacks, plain_word, lacks-append}
 
 -- two words after a prefix
 words_cut : (prefix words first rest : List ℕ) → prefix ++ words ≡ ((prefix ++ first) ++ codes " ") ++ rest → IsWord first → IsCut 32 words first rest

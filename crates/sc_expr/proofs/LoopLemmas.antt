@@ -9,7 +9,7 @@ use Rattle.sc_types.specs.declared.token.Mark.TheVariants.{OpenSquare}
 use Rattle.sc_types.specs.declared.token.Token.{Token}
 use Rattle.sc_types.specs.declared.token.Token.TheVariants.{Operator, Mark as Sign}
 use Rattle.sc_expr.specs.Descent.{Parse, within, chained, chained_from, indexed, indexed_from, after_close_square}
-use Rattle.sc_expr.proofs.Depths.{depth-Two, depth-Item, alike}
+use Rattle.sc_expr.proofs.DepthLemmas.{depth-Two, depth-Item, alike}
 
 -- what `chained` does at an operator, where it goes on by `again`
 abbrev pub at_operator : Parse Expr → ℕ → (Expr → Parse Expr) → Expr → Op → Parse Expr

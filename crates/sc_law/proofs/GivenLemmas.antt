@@ -23,10 +23,10 @@ use Rattle.sc_types.specs.declared.value.Value.{Value}
 use Rattle.sc_law.specs.Host.{Answer, answer, chart_named, posted_event, cue_of, name_of, queue_left, queue_of_phase}
 use Rattle.sc_law.specs.History.{Tells, IsLegal, consumed_in, consumed, is_posted, is_queued, gives, GivenBefore}
 use Rattle.sc_law.specs.Flat.Turn.{turn}
-use Rattle.sc_law.proofs.Changes.{Change, refuses, installs, starts, queues, turns, change_of}
-use Rattle.sc_law.proofs.Found.{is_at}
+use Rattle.sc_law.proofs.ChangeLemmas.{Change, refuses, installs, starts, queues, turns, change_of}
+use Rattle.sc_law.proofs.FoundLemmas.{is_at}
 use Rattle.sc_law.proofs.Once.{external_front}
-use Rattle.sc_law.proofs.Turns.{turn-session}
+use Rattle.sc_law.proofs.TurnLemmas.{turn-session}
 
 -- a fact of each item
 

@@ -9,7 +9,7 @@ use Rattle.std.specs.Str.Parse.{digits_value}
 use Rattle.sc_base.specs.Text.{is_digit}
 use Rattle.sc_types.specs.Delays.{are_digits}
 use Rattle.sc_expr.specs.Numbers.{digits_number, short_number}
-use Rattle.sc_expr.proofs.Numbers.{own, all_true}
+use Rattle.sc_expr.proofs.NumberLemmas.{own, all_true}
 
 -- ---- at most 13 digits
 

@@ -23,10 +23,10 @@ use Rattle.sc_law.specs.Run.{is_accepted_step}
 use Rattle.sc_law.specs.Flat.Entry.{first_entry}
 use Rattle.sc_law.specs.Flat.Microstep.{enter}
 use Rattle.sc_law.specs.Flat.Turn.{after_rest, after, turn, settle, round_limit, begin, take_event}
-use Rattle.sc_law.proofs.Changes.{Change, IsLive, refuses, installs, starts, queues, turns}
-use Rattle.sc_law.proofs.Found.{is_at}
+use Rattle.sc_law.proofs.ChangeLemmas.{Change, IsLive, refuses, installs, starts, queues, turns}
+use Rattle.sc_law.proofs.FoundLemmas.{is_at}
 use Rattle.sc_law.proofs.Once.{sum_replaced}
-use Rattle.sc_law.proofs.Turns.{turn-session, turn_leaves_none}
+use Rattle.sc_law.proofs.TurnLemmas.{turn-session, turn_leaves_none}
 
 -- names of sessions are distinct
 

@@ -6,9 +6,9 @@ use Rattle.sc_types.specs.declared.command.Command.TheVariants.{Install, Start}
 use Rattle.sc_law.specs.Lines.{line, command_text}
 use Rattle.sc_top.specs.FirstForm.{post_of, IsFirstForm}
 use Rattle.sc_top.specs.ScriptLines.{IsCut, IsChartLine, IsStartLine, IsPosts, posts_text}
-use Rattle.sc_top.proofs.Cuts.{same_cut}
-use Rattle.sc_top.proofs.Lines.{same_chart_line, same_start_line, chart_line_lacks, start_line_lacks}
-use Rattle.sc_top.proofs.Posts.{same_posts}
+use Rattle.sc_top.proofs.CutLemmas.{same_cut}
+use Rattle.sc_top.proofs.LineLemmas.{same_chart_line, same_start_line, chart_line_lacks, start_line_lacks}
+use Rattle.sc_top.proofs.PostLemmas.{same_posts}
 
 abbrev lines_text : List Command → List ℕ
 lines_text cs = flat_map (λ c. line (command_text c)) cs

@@ -19,7 +19,7 @@ use Rattle.sc_law.specs.Flat.Microstep.{exit_states, is_onentry, run_blocks, joi
 use Rattle.sc_law.specs.Flat.Selection.{select}
 use Rattle.sc_law.specs.Flat.Sets.{transition_node, exit_set}
 use Rattle.sc_law.specs.Flat.Turn.{bind, take_event, internal_round, eventless_round, next_round, start_invokes, settle, round_limit, begin, after_rest, after, turn}
-use Rattle.sc_law.proofs.Changes.{IsLive}
+use Rattle.sc_law.proofs.ChangeLemmas.{IsLive}
 
 -- nothing in a turn changes the name of the session
 

@@ -8,8 +8,8 @@ use Rattle.sc_types.specs.declared.command.Command.{Command}
 use Rattle.sc_law.specs.Lines.{line, command_text}
 use Rattle.sc_top.specs.FirstForm.{post_of}
 use Rattle.sc_top.specs.ScriptLines.{IsCut, IsPosts, posts_text}
-use Rattle.sc_top.proofs.Cuts.{same_parts}
-use Rattle.sc_top.proofs.Lines.{same_post, post_line_lacks}
+use Rattle.sc_top.proofs.CutLemmas.{same_parts}
+use Rattle.sc_top.proofs.LineLemmas.{same_post, post_line_lacks}
 
 abbrev post : List ℕ → List ℕ → List ℕ
 post session event = command_text (post_of session event)

@@ -15,7 +15,7 @@ use Rattle.sc_types.specs.declared.token.Token.TheVariants.{Operator, Mark as Si
 use Rattle.sc_expr.specs.declared.sub.Prefix.{Prefix}
 use Rattle.sc_expr.specs.declared.sub.Prefix.TheVariants as prefix
 use Rattle.sc_expr.specs.Descent.{Parse, within, made, chained_from, indexed_from, prefixed, operator_at, prefix_at, prefix_of, all_prefixed, is_at, with_rest, after_close_square, loose, loose_at, inside, primary, postfix, items, front, item_end, is_unended, list_of}
-use Rattle.sc_expr.proofs.Loops.{chained_from_op, chained_from_other, at_square, indexed_from_square, indexed_from_other}
+use Rattle.sc_expr.proofs.LoopLemmas.{chained_from_op, chained_from_other, at_square, indexed_from_square, indexed_from_other}
 
 -- levels
 

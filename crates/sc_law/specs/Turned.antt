@@ -1,0 +1,36 @@
+-- A turn with what it gave. This host's own rule.
+use Rattle.std.specs.Prelude.{List, ◌≡◌}
+use Rattle.sc_types.specs.declared.chart.Chart.{Chart}
+use Rattle.sc_types.specs.declared.effect.Effect.{Effect}
+use Rattle.sc_types.specs.declared.history.LogLine.{LogLine}
+use Rattle.sc_types.specs.declared.session.Cue.{Cue}
+use Rattle.sc_types.specs.declared.session.SessionState.{SessionState}
+use Rattle.std.specs.Arc.{arc_value}
+use Rattle.sc_law.specs.Turn.{turn}
+use Rattle.sc_law.specs.declared.turned.Turned.TheInside.{Inside}
+
+pub record TurnedOf : Type 0 where
+  pub chart : Chart
+  pub before : SessionState
+  pub cue : Cue
+  pub after : SessionState
+  pub effects : List Effect
+  pub logs : List LogLine
+
+abbrev pub turned : Inside → TurnedOf
+turned t = record {
+  chart = arc_value t.chart;
+  before = t.before;
+  cue = t.cue;
+  after = t.after;
+  effects = t.effects;
+  logs = t.logs;
+}
+
+-- what it gave is what the turn gives
+abbrev pub IsTurn : TurnedOf → Type 0
+IsTurn t = turn t.chart t.before t.cue ≡ record { after = t.after; effects = t.effects; logs = t.logs }
+
+-- a turn of this chart, from this session and for this cue
+abbrev pub IsTurnOf : Chart → SessionState → Cue → TurnedOf → Type 0
+IsTurnOf c before cue t = (t.chart ≡ c) × (t.before ≡ before) × (t.cue ≡ cue)

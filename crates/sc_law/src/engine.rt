@@ -1,0 +1,38 @@
+ghost use Rattle.std.specs.Prelude.{◌≡◌, None, IfOk};
+ghost use Rattle.std.specs.Arc.{arc_value};
+ghost use Rattle.sc_types.specs.declared.chart.Chart.{Chart};
+ghost use Rattle.sc_law.specs.Legality.{legal_fault};
+ghost use Rattle.sc_law.specs.Fitting.{Fits, HasCue};
+ghost use Rattle.sc_law.specs.Turned.{IsTurnOf};
+
+use crate::turned::Turned;
+use sc_types::{Chart, Cue, NoMemory, SessionState};
+use std::alloc::Global;
+use std::sync::Arc;
+
+/// What computes turns. A plan is made once for each chart, and serves all sessions and workers that run the chart.
+pub trait Engine: Sync {
+    /// What the engine keeps of a chart.
+    type Plan: Send + Sync + Drop;
+
+    /// The chart that a plan was made of.
+    ghost chart_of: { Self.Plan → Chart };
+
+    /// The plan of a legal chart.
+    fn plan(&self, alloc: Global, chart: &Arc<Chart>) -> Result<Self::Plan, NoMemory>
+        requires legal { legal_fault (arc_value chart.now) ≡ None }
+        ensures { IfOk result (λ plan. chart_of plan ≡ arc_value chart.now) };
+
+    /// The turn that a session's cue asks for, computed from these three alone.
+    fn turn(
+        &self,
+        alloc: Global,
+        plan: &Self::Plan,
+        before: &SessionState,
+        cue: &Cue,
+    ) -> Result<Turned, NoMemory>
+        requires legal { legal_fault (chart_of plan.now) ≡ None }
+        requires fits { Fits (chart_of plan.now) before.now }
+        requires cue { HasCue before.now cue.now }
+        ensures { IfOk result (IsTurnOf (chart_of plan.now) before.now cue.now) };
+}
