@@ -14,3 +14,4 @@ pub mod Placed
 pub mod RangeRows
 pub mod Sources
 pub mod TransitionLists
+pub mod Within

@@ -1,6 +1,7 @@
-ghost use Rattle.std.specs.Prelude.{◌≡◌, ◌<◌, ◌≤◌, None, Some, IfOk, IfSome, length, unwrap_or};
+ghost use Rattle.std.specs.Prelude.{◌≡◌, ◌<◌, ◌≤◌, [], ◌∷◌, All, None, Some, IfOk, IfSome, length, unwrap_or};
 ghost use Rattle.std.specs.Arc.{arc_value};
-ghost use Rattle.sc_law.specs.Tree.{root, state_count, state_element};
+ghost use Rattle.std.specs.Option.{option_map_or};
+ghost use Rattle.sc_law.specs.Tree.{ancestors, is_below, root, state_count, state_element};
 ghost use Rattle.sc_law.specs.Kinds.{kind_of};
 ghost use Rattle.sc_law.specs.Configurations.{children, defaults, parent_of};
 ghost use Rattle.sc_law.specs.Legality.{legal_fault};
@@ -106,6 +107,7 @@ impl Tables {
     pub fn parent(&self, s: u32) -> Option<u32>
         requires { s < state_count self.now }
         ensures value { unwrap_or result (root self.now) ≡ parent_of self.now s }
+        ensures above { ancestors self.now s ≡ option_map_or (λ p. p ∷ ancestors self.now p) result [] }
         ensures within { IfSome result (λ p. p < s) }
     {
         self.states.parents.slice()[s as usize]
@@ -117,6 +119,15 @@ impl Tables {
         ensures { result.now ≡ row_of self.now (below self.now s) }
     {
         &self.states.below.slice()[s as usize]
+    }
+
+    /// Whether a state or history is below another, or below the root.
+    pub fn is_below(&self, s: u32, above: u32) -> bool
+        requires s { s < state_count self.now }
+        requires above { above ≤ state_count self.now }
+        ensures { result ≡ is_below self.now s above }
+    {
+        above == self.count || self.below(above).has(s)
     }
 
     /// The child states of a state, or of the root.
@@ -181,7 +192,8 @@ impl Tables {
     /// The states and histories that a transition names, in its order.
     pub fn targets(&self, tr: u32) -> &[u32]
         requires { tr < length (transition_paths self.now) }
-        ensures { result.now ≡ targets self.now tr }
+        ensures value { result.now ≡ targets self.now tr }
+        ensures within { All (λ s. s < state_count self.now) result.now }
     {
         self.transitions.targets.slice()[tr as usize].slice()
     }
@@ -189,7 +201,8 @@ impl Tables {
     /// The default targets of a compound state, of a history, or of the root; none of another state.
     pub fn defaults(&self, s: u32) -> &[u32]
         requires { s ≤ state_count self.now }
-        ensures { result.now ≡ defaults self.now s }
+        ensures value { result.now ≡ defaults self.now s }
+        ensures within { All (λ s. s < state_count self.now) result.now }
     {
         self.defaults.slice()[s as usize].slice()
     }
