@@ -181,7 +181,8 @@ impl Tables {
     /// The state that a transition stands in.
     pub fn source(&self, tr: u32) -> u32
         requires { tr < length (transition_paths self.now) }
-        ensures { result ≡ source self.now tr }
+        ensures value { result ≡ source self.now tr }
+        ensures within { result ≤ state_count self.now }
     {
         match self.transitions.sources.slice()[tr as usize] {
             Some(state) => state,
