@@ -1,0 +1,9 @@
+pub mod BelowSets
+pub mod Climbing
+pub mod Downward
+pub mod ExitSets
+pub mod KeptLists
+pub mod Members
+pub mod RecordSets
+pub mod Stands
+pub mod Steps

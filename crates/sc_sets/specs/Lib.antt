@@ -1,0 +1,4 @@
+pub mod Conditions
+pub mod Steps
+pub mod Targets
+pub mod Triples

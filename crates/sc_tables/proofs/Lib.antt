@@ -1,0 +1,17 @@
+pub mod Above
+pub mod BlockRows
+pub mod Blocks
+pub mod DefaultTargets
+pub mod Elements
+pub mod Identifiers
+pub mod KindLists
+pub mod Leads
+pub mod LegalRoots
+pub mod LookUps
+pub mod Numbers
+pub mod Order
+pub mod Placed
+pub mod RangeRows
+pub mod Sources
+pub mod TransitionLists
+pub mod Within

@@ -1,0 +1,40 @@
+use Rattle.std.proofs.Common.{◌≡◌, ◌<◌, ◌≤◌, true, false, [], take, get_or, length, length-take, ap, ap₂, sym, refl, arith, ◌∙◌}
+use Rattle.std.proofs.lemmas.List.{get_or_read_under}
+use Rattle.sc_base.specs.Ascending.{with_number}
+use Rattle.sc_bits.specs.Rows.{RowOf}
+use Rattle.sc_law.specs.Nodes.{leads_on}
+use Rattle.sc_tables.specs.Nearest.{path_at}
+use Rattle.sc_tables.proofs.BlockRows.{none-yet, all-found, row-ends}
+use Rattle.sc_tables.proofs.Numbers.{numbers-add}
+use Rattle.sc_tables.proofs.rows.below_row.Goals as goal
+
+pub loop-state-init : goal.loop-state-init
+loop-state-init c = record {
+  width = ap (λ (r : RowOf). r.width) c.in_ok-row.ensures;
+  members = ap (λ (r : RowOf). r.members) c.in_ok-row.ensures ∙ sym (none-yet c.args.paths.now c.args.from c.args.path.now c.requires.block);
+}
+
+pub returns-then-not-leads_on : goal.returns-then-not-leads_on
+returns-then-not-leads_on c =
+    let paths = c.args.paths.now in
+    let s = c.loop-state.state in
+    let here : c.slice.result.now ≡ path_at paths s =
+    c.slice.ensures ∙ get_or_read_under paths s _ _ [] c.index-paths-state.is (omega (arith, c.requires.width)) refl in
+    let fails : leads_on c.args.path.now (path_at paths s) ≡ false =
+    ap (leads_on c.args.path.now) (sym here) ∙ sym c.leads_on.ensures ∙ c.if-not-leads_on.true in
+    row-ends c.loop-state.row c.args.width _ c.loop-state.invariant.width
+    (c.loop-state.invariant.members ∙ sym (all-found paths c.args.from s c.args.path.now c.requires.block c.loop-state.auto.state (omega (arith, c.requires.width)) fails))
+
+pub loop-state-preserved : goal.loop-state-preserved
+loop-state-preserved c =
+    let paths = c.args.paths.now in
+    let s = c.loop-state.state in
+    let here : c.slice.result.now ≡ path_at paths s =
+    c.slice.ensures ∙ get_or_read_under paths s _ _ [] c.index-paths-state.is (omega (arith, c.requires.width)) refl in
+    let passes : leads_on c.args.path.now (path_at paths s) ≡ true =
+    ap (leads_on c.args.path.now) (sym here) ∙ sym c.leads_on.ensures ∙ c.if-not-leads_on.false in
+    record {
+      width = ap (λ (r : RowOf). r.width) c.add.ensures ∙ c.loop-state.invariant.width;
+      members = ap (λ (r : RowOf). r.members) c.add.ensures ∙ ap (with_number s) c.loop-state.invariant.members
+          ∙ numbers-add (leads_on c.args.path.now) paths s (omega (arith, c.requires.width)) passes;
+    }

@@ -1,0 +1,8 @@
+pub mod Blocks
+pub mod Built
+pub mod Ids
+pub mod Kept
+pub mod Nearest
+pub mod Only
+pub mod Preorder
+pub mod Rows

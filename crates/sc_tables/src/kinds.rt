@@ -1,0 +1,50 @@
+ghost use Rattle.std.specs.Prelude.{◌≡◌, Some, true, if◌then◌else◌, codes};
+ghost use Rattle.sc_types.specs.Attributes.{is_text_at};
+ghost use Rattle.sc_types.specs.Elements.{is_numbered};
+ghost use Rattle.sc_types.specs.declared.attribute.Attribute.TheVariants as attribute;
+ghost use Rattle.sc_types.specs.declared.state_kind.StateKind.TheVariants as kind;
+ghost use Rattle.sc_law.specs.Nodes.{tag_of};
+ghost use Rattle.sc_law.specs.Tree.{has_states};
+ghost use Rattle.sc_law.specs.Kinds.{kind_at, is_history_kind};
+
+use sc_law::has_states;
+use sc_types::{Attribute, Node, StateKind, Tag};
+
+/// What a state or a history is.
+pub(crate) fn kind_of(node: &Node) -> StateKind
+    requires { is_numbered (tag_of node.now) ≡ true }
+    ensures { Some result ≡ kind_at node.now (tag_of node.now) }
+{
+    match node.tag {
+        Tag::State => state_kind(node),
+        Tag::Final => StateKind::Final,
+        Tag::Parallel => StateKind::Parallel,
+        _ => history_kind(node),
+    }
+}
+
+fn state_kind(node: &Node) -> StateKind
+    ensures { result ≡ (if has_states node.now then kind.Compound else kind.Atomic) }
+{
+    if has_states(node) {
+        StateKind::Compound
+    } else {
+        StateKind::Atomic
+    }
+}
+
+fn history_kind(node: &Node) -> StateKind
+    ensures { result ≡ (if is_text_at attribute.Type (codes "deep") node.now then kind.Deep else kind.Shallow) }
+{
+    if node.is_text(Attribute::Type, b"deep") {
+        StateKind::Deep
+    } else {
+        StateKind::Shallow
+    }
+}
+
+pub(crate) fn is_history(kind: StateKind) -> bool
+    ensures { result ≡ is_history_kind kind }
+{
+    matches!(kind, StateKind::Shallow | StateKind::Deep)
+}
