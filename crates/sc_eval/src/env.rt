@@ -1,4 +1,4 @@
-ghost use Rattle.std.specs.Prelude.{◌≡◌, ◌++◌, ◌∷◌, [], None, Some, Err, OnOk, OnErr, false};
+ghost use Rattle.std.specs.Prelude.{◌≡◌, ◌≢◌, IfErr, ◌++◌, ◌∷◌, [], None, Some, Err, OnOk, OnErr, false};
 ghost use Rattle.std.specs.List.{list_any};
 ghost use Rattle.sc_law.specs.Evaluation.{is_pair_named};
 ghost use Rattle.sc_types.specs.declared.eval_fault.EvalFault.TheVariants.{Unknown};
@@ -69,7 +69,8 @@ impl Env {
     pub fn declare(&mut self, name: &PlainName) -> Result<(), EvalFault>
         ensures kept { self.new ≡ record self.old { values = self.new.values } }
         ensures ok { OnOk result (declare name.now (env_of self.old) ≡ Some (env_of self.new)) }
-        ensures fault { result ≡ Err Unknown → declare name.now (env_of self.old) ≡ None }
+        ensures fault { IfErr result (λ f. f ≢ EvalFault.NoMemory
+            → (f ≡ Unknown) × (declare name.now (env_of self.old) ≡ None)) }
         ensures others { OnErr result (self.new ≡ self.old) }
     {
         if is_reserved(name.bytes()) {

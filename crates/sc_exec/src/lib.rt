@@ -1,0 +1,15 @@
+//! Executable content: what a block of elements does to a session in the middle of a turn, and the initial values of
+//! data.
+//!
+//! A fault stops the rest of its block; what came before it stays. SCXML 4, 5 and 6.2.
+#![tactic(auto)]
+
+mod condition;
+mod elements;
+mod events;
+mod running;
+mod values;
+
+pub use condition::holds;
+pub use events::enqueue_failure;
+pub use running::Running;
