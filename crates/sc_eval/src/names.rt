@@ -36,8 +36,8 @@ fn copy_found(found: Option<&Value>) -> Result<Value, EvalFault>
     }
 }
 
-/// The value of a datum, or of one of the platform's names. SCXML 5.10.
-pub(crate) fn datum(alloc: Global, env: &Env, name: &[u8]) -> Result<Value, EvalFault>
+/// The value of a datum, or of one of the platform's names, as an expression reads it. SCXML 5.10.
+pub fn datum(alloc: Global, env: &Env, name: &[u8]) -> Result<Value, EvalFault>
     ensures { Gives result (datum name.now (env_of env.now)) }
 {
     if name == "_sessionid".as_bytes() {

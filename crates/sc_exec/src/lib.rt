@@ -4,12 +4,20 @@
 //! A fault stops the rest of its block; what came before it stays. SCXML 4, 5 and 6.2.
 #![tactic(auto)]
 
+mod branches;
 mod condition;
+mod content;
+mod delay;
 mod elements;
+mod event_data;
 mod events;
+mod receiver;
 mod running;
+mod sending;
 mod values;
 
 pub use condition::holds;
+pub use content::run_block;
+pub use event_data::{named_pairs, params, payload};
 pub use events::enqueue_failure;
 pub use running::Running;
