@@ -19,5 +19,5 @@ pub use data_table::DataTable;
 pub use env::Env;
 pub use evaluation::eval;
 pub use ids::Ids;
-pub use names::datum;
+pub use names::{datum, last_pair};
 pub use sc_types::EvalFault;

@@ -59,7 +59,8 @@ fn kind_text(kind: Kind) -> &'static [u8]
     }
 }
 
-fn last_pair<'a>(pairs: &'a [(PlainName, Value)], name: &[u8]) -> Option<&'a Value>
+/// The value of the last pair of a name.
+pub fn last_pair<'a>(pairs: &'a [(PlainName, Value)], name: &[u8]) -> Option<&'a Value>
     ensures { option_copied result ≡ last_pair name.now pairs.now }
 {
     let pair = pairs.iter().rev().find(|pair| pair.0.bytes() == name)?;

@@ -1,11 +1,11 @@
 -- The branches of an `if`, one after another.
-use Rattle.std.proofs.Common.{◌≡◌, ℕ, suc, ◌+◌, ◌-◌, ◌<◌, ◌≤◌, cond, Bool, true, false, List, ◌∷◌, [], map, take, drop, length, get_or, slice_range, Option, refl, ap, ap₂, sym, ◌∙◌, arith, add-one, drop-cons, drop-drop, drop_of_length-le}
+use Rattle.std.proofs.Common.{◌≡◌, ℕ, ◌+◌, ◌-◌, ◌<◌, ◌≤◌, cond, Bool, true, false, List, ◌∷◌, map, take, drop, length, get_or, slice_range, Option, ap, ap₂, sym, ◌∙◌, arith, add-one, drop-cons, drop-drop, drop_of_length-le}
 use Rattle.sc_types.specs.Attributes.{code_in, members_of}
 use Rattle.sc_types.specs.declared.attribute.Attribute.TheVariants as attribute
 use Rattle.sc_types.specs.declared.chart.Node.{Node}
 use Rattle.sc_types.specs.declared.expr.Expr.{Expr}
 use Rattle.sc_law.specs.Content.{Branch, Part, cut, first_branch, part, run_parts}
-use Rattle.sc_law.specs.Outcomes.{Outcome, done, holds}
+use Rattle.sc_law.specs.Outcomes.{done, holds}
 use Rattle.sc_law.specs.Runs.{Running}
 use Rattle.sc_exec.specs.Branches.{branch_len, chosen, later_branches}
 use Rattle.sc_exec.proofs.Parts.{cut_parts}

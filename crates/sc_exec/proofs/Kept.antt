@@ -1,7 +1,6 @@
 -- What content leaves as it is.
-use Rattle.std.proofs.Common.{◌≡◌, ◌∙◌}
-use Rattle.sc_eval.specs.Envs.{AreWithin, HasIds}
-use Rattle.std.specs.Arc.{arc_value}
+use Rattle.std.proofs.Common.{◌∙◌}
+use Rattle.sc_eval.specs.Envs.{HasIds}
 use Rattle.sc_exec.specs.Runs.{KeepsRows}
 use Rattle.sc_exec.specs.declared.running.Running.{Running}
 

@@ -4,3 +4,4 @@ pub mod Needs
 pub mod Parts
 pub mod Payloads
 pub mod Stepping
+pub mod Steps

@@ -1,5 +1,5 @@
 -- Elements as their parts, by one level.
-use Rattle.std.proofs.Common.{◌≡◌, ◌≢◌, ℕ, suc, cond, Bool, true, false, List, ◌∷◌, [], map, take, drop, Option, refl, ap, ap₂, rules, sym, ◌∙◌}
+use Rattle.std.proofs.Common.{◌≡◌, ◌≢◌, suc, cond, Bool, true, false, List, ◌∷◌, [], map, take, drop, refl, ap, ap₂, rules, sym, ◌∙◌}
 use Rattle.sc_types.specs.Attributes.{Members, members_of, code_in}
 use Rattle.sc_types.specs.declared.attribute.Attribute.TheVariants as attribute
 use Rattle.sc_types.specs.declared.chart.Node.{Node, Node', Row_of-Node, end_of-Node, more_of-Node, items-the_row-Node, out-Node, the_lemmas as node_lemmas}
@@ -7,7 +7,7 @@ use Rattle.sc_types.specs.declared.chart.Tag.{Tag}
 use Rattle.sc_types.specs.declared.chart.Tag.TheVariants as tag
 use Rattle.sc_law.specs.Content.{Branch, Part, cut, cut_at, is_else, part, parts, run_element, shown}
 use Rattle.sc_law.specs.Nodes.{kids, tag_of}
-use Rattle.sc_law.specs.Outcomes.{Outcome, done}
+use Rattle.sc_law.specs.Outcomes.{done}
 use Rattle.sc_law.specs.Runs.{Running}
 use Rattle.sc_law.specs.Sending.{child_of, children_of, send}
 use Rattle.sc_exec.specs.Branches.{branch_len, later_branches}

@@ -1,8 +1,7 @@
 -- The data of a send from its parts.
-use Rattle.std.proofs.Common.{◌≡◌, ℕ, Bool, true, false, cond, List, ◌∷◌, [], ◌++◌, map, filter, find, Option, Some, None, option_map, refl, ap, sym, ◌∙◌}
-use Rattle.sc_types.specs.Attributes.{Members, members_of}
+use Rattle.std.proofs.Common.{◌≡◌, ℕ, Bool, true, false, cond, List, ◌∷◌, [], ◌++◌, map, filter, Some, None, option_map, refl, ap, sym, ◌∙◌}
+use Rattle.sc_types.specs.Attributes.{members_of}
 use Rattle.sc_types.specs.declared.chart.Node.{Node}
-use Rattle.sc_types.specs.declared.chart.Tag.{Tag}
 use Rattle.sc_types.specs.declared.chart.Tag.TheVariants as tag
 use Rattle.sc_types.specs.declared.event.Data.{Data}
 use Rattle.sc_types.specs.declared.value.Value.{Value}

@@ -1,5 +1,5 @@
 -- Elements one after another.
-use Rattle.std.proofs.Common.{◌≡◌, ℕ, suc, ◌+◌, ◌-◌, ◌<◌, ◌≤◌, List, ◌∷◌, [], map, take, drop, length, get_or, slice_range, Result, Err, Ok, refl, ap, ap₂, sym, ◌∙◌, arith, add-one, drop-cons}
+use Rattle.std.proofs.Common.{◌≡◌, ℕ, suc, ◌+◌, ◌-◌, ◌<◌, ◌≤◌, List, ◌∷◌, map, take, drop, length, get_or, slice_range, Err, ap, ap₂, sym, ◌∙◌, arith, add-one, drop-cons}
 use Rattle.sc_base.specs.declared.failure.Failure.{Failure}
 use Rattle.sc_base.specs.declared.failure.Failure.TheVariants.{Fault, NoMemory}
 use Rattle.sc_types.specs.declared.chart.Node.{Node}

@@ -1,8 +1,7 @@
 -- A session in the middle of a turn as the definitions see it, and how a program's answer tells an outcome.
-use Rattle.std.specs.Prelude.{◌≡◌, Err, List, Ok, Result, [], ℕ}
+use Rattle.std.specs.Prelude.{◌≡◌, Err, List, Ok, Result, ℕ}
 use Rattle.sc_base.specs.declared.failure.Failure.{Failure}
 use Rattle.sc_base.specs.declared.failure.Failure.TheVariants.{Fault, NoMemory}
-use Rattle.sc_types.specs.declared.eval_fault.EvalFault.{EvalFault}
 use Rattle.sc_law.specs.Runs.{Running as PlainRunning}
 use Rattle.sc_law.specs.Outcomes.{Outcome, done, stopped_at}
 use Rattle.sc_eval.specs.Envs.{env_of}

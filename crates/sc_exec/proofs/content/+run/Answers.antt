@@ -1,5 +1,5 @@
 use Rattle.std.proofs.lemmas.Result.{err_from_is_err_and}
-use Rattle.std.proofs.Common.{Err, ◌≡◌, ◌+◌, ◌<◌, ap, subst, sym, ◌∙◌, rules, arith, drop, length, map, slice_range, option_copied}
+use Rattle.std.proofs.Common.{Err, ◌+◌, ◌<◌, ap, subst, sym, ◌∙◌, rules, arith, drop, length, map, slice_range, option_copied}
 use Rattle.sc_types.specs.declared.chart.Tag.TheVariants as tag
 use Rattle.sc_law.specs.Content.{part, run_parts}
 use Rattle.sc_law.specs.Outcomes.{Outcome, on_done}
