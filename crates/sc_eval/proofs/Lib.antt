@@ -1,0 +1,5 @@
+pub mod Opened
+pub mod Layers
+pub mod Rows
+pub mod Same
+pub mod Tables

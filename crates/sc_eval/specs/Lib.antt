@@ -1,0 +1,4 @@
+pub mod Envs
+pub mod Faults
+pub mod Lists
+pub mod Places

@@ -1,0 +1,7 @@
+pub mod Branching
+pub mod Kept
+pub mod Needs
+pub mod Parts
+pub mod Payloads
+pub mod Stepping
+pub mod Steps
