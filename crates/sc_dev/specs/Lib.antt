@@ -1,3 +1,8 @@
 pub mod Causes
+pub mod Disks
+pub mod Histories
 pub mod Memory
+pub mod PartInside
+pub mod Parts
+pub mod Ranges
 pub mod Transfer

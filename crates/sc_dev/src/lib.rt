@@ -5,7 +5,9 @@
 #![tactic(auto)]
 
 mod calls;
+mod disk;
 mod failed;
+mod mem_part;
 mod mem_sink;
 mod mem_source;
 mod sink;
@@ -14,6 +16,7 @@ mod sure;
 mod transfer;
 mod unread;
 
+pub use disk::{Disk, Part};
 pub use failed::Failed;
 pub use mem_sink::MemSink;
 pub use mem_source::MemSource;
