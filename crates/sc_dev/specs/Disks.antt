@@ -50,6 +50,7 @@ Within old new = (c : DiskOf) → new c → old c
 
 -- Time goes on: a stop since t might have left what it might have left before, or what it may leave now.
 pub record Elapses (before now : ℕ) (past since : ℕ → DiskOf → Type 0) (may_leave : DiskOf → Type 0) : Type 0 where
+  pub later : before ≤ now
   pub rose : Rose before now
   pub nothing_else : (t : ℕ) (c : DiskOf) → t ≤ before → since t c → past t c ⊎ may_leave c
   pub keeps : (t : ℕ) (c : DiskOf) → t ≤ before → past t c → since t c

@@ -174,7 +174,7 @@ fn keep(bytes: &mut Vec<u8>, more: &[u8])
 }
 
 // So many bytes at a place, or as many as there are.
-fn range_of(bytes: &[u8], at: usize, size: usize) -> &[u8]
+pub fn range_of(bytes: &[u8], at: usize, size: usize) -> &[u8]
     ensures bytes { result.now ≡ take size (drop at bytes.now) }
     ensures size { length result.now ≤ size }
 {
