@@ -1,0 +1,4 @@
+pub mod Gates
+pub mod Images
+pub mod Kept
+pub mod Runs

@@ -1,0 +1,159 @@
+ghost use Rattle.std.specs.Prelude.{◌≡◌, ◌⊎◌, ◌+◌, ◌^◌, ◌<◌, ◌≤◌, ◌↔◌, [], ◌∷◌, ◌++◌, length, false, None, Some, IsTrue, IsSome, OnOk, OnErr};
+ghost use Rattle.sc_dev.specs.Causes.{HasCause, Rose};
+ghost use Rattle.sc_dev.specs.Disks.{DiskOf};
+ghost use Rattle.sc_journal.specs.Journals.{Keeps, IsWithOrWithout, IsAsDoubted, IsFull};
+ghost use Rattle.sc_journal.specs.Stops.{LeavesOnly};
+ghost use Rattle.sc_journal.specs.Texts.{HeadOf, Holds};
+
+use crate::fault::{AppendFault, JournalFault};
+use crate::write::{fill, write_synced};
+use sc_base::Bytes;
+use sc_dev::{Disk, Failed};
+use std::alloc::Global;
+use std::marker::Model;
+
+/// A journal that was opened: entries are added at its end.
+///
+/// Where a call failed at the disk, an entry may be in doubt: a stop may leave it or not. It is to be settled
+/// before the next one is added.
+#[derive(Drop)]
+pub struct Journal<D: Disk> {
+    disk: D,
+    buffer: Vec<u8>,
+    end: u64,
+    next: u64,
+    is_in_doubt: bool,
+}
+
+impl<D: Disk> Model for Journal<D> {
+    ghost use Rattle.sc_journal.specs.Journals.{JournalOf};
+
+    ghost Value = { JournalOf D };
+
+    ghost use Rattle.sc_journal.specs.JournalInside.{journal_inside, IsReady};
+
+    ghost view = { journal_inside };
+
+    ghost invariant = { IsReady };
+}
+
+/// A journal and the bodies that it holds, the first of them first.
+#[derive(Drop)]
+pub struct Opened<D: Disk> {
+    pub journal: Journal<D>,
+    pub bodies: Vec<Bytes>,
+}
+
+/// Why a journal was not opened, and its disk.
+#[derive(Drop)]
+pub struct NotOpened<D: Disk> {
+    pub disk: D,
+    pub fault: JournalFault,
+}
+
+impl<D: Disk> Journal<D> {
+    /// Whether an entry is in doubt.
+    pub fn in_doubt(&self) -> bool
+        ensures { IsTrue result ↔ IsSome self.now.doubt }
+    {
+        self.is_in_doubt
+    }
+
+    /// The number of the entry that is added next.
+    pub fn next_number(&self) -> u64
+        ensures { result ≡ self.now.next }
+    {
+        self.next
+    }
+
+    /// The disk's moment.
+    pub fn moment(&self) -> u64
+        ensures { result ≡ D.moment self.now.disk }
+    {
+        self.disk.moment()
+    }
+
+    pub fn into_disk(self) -> D
+        ensures { result ≡ self.disk }
+    {
+        self.disk
+    }
+
+    /// Adds an entry. At `Ok` it is acknowledged: from then on each stop leaves it. It makes four device calls.
+    pub fn append(&mut self, body: &[u8]) -> Result<(), AppendFault>
+        requires settled { self.old.doubt ≡ None }
+        requires some { 1 ≤ length body.now }
+        requires most { length body.now ≤ 2097152 }
+
+        // exactly where there is no room for it, and then no device is called
+        ensures full { result ≡ Err AppendFault.Full → IsFull self.old.end self.old.next (length body.now) }
+        ensures no_room { IsFull self.old.end self.old.next (length body.now) → result ≡ Err AppendFault.Full }
+        ensures untouched { result ≡ Err AppendFault.Full → self.new ≡ self.old }
+
+        // only where the disk's faults rose
+        ensures failed { result ≡ Err AppendFault.Failed → Rose (D.faults self.old.disk) (D.faults self.new.disk) }
+        ensures later { D.faults self.old.disk ≤ D.faults self.new.disk }
+
+        // where it ends, and what is in doubt
+        ensures added { OnOk result ((self.new.end ≡ self.old.end + 5 + length body.now)
+            × ((self.new.next ≡ self.old.next + 1) × (self.new.doubt ≡ None))) }
+        ensures not_added { OnErr result ((self.new.end ≡ self.old.end) × ((self.new.next ≡ self.old.next)
+            × ((self.new.doubt ≡ None) ⊎ (self.new.doubt ≡ Some body.now)))) }
+        ensures time { OnOk result (Rose (D.moment self.old.disk) (D.moment self.new.disk)) }
+        ensures same { D.identity self.new.disk ≡ D.identity self.old.disk }
+
+        // what every stop leaves
+        ensures acknowledged { (head : HeadOf) (bodies : _) → Keeps D.tells D.may_leave self.old head bodies
+            → OnOk result (Keeps D.tells D.may_leave self.new head (bodies ++ body.now ∷ [])) }
+        ensures kept { (head : HeadOf) (bodies : _) → Keeps D.tells D.may_leave self.old head bodies
+            → OnErr result (Keeps D.tells D.may_leave self.new head bodies) }
+        ensures any_moment { (head : HeadOf) (bodies : _) → Keeps D.tells D.may_leave self.old head bodies
+            → LeavesOnly D.moment D.may_have_left self.old.disk self.new.disk
+                (IsWithOrWithout head bodies body.now) }
+    {
+        if self.is_full(body.len()) {
+            return Err(AppendFault::Full);
+        }
+        fill(&mut self.buffer, body);
+        write_synced(&mut self.disk, self.end + 1, &self.buffer)?;
+        self.is_in_doubt = true;
+        write_synced(&mut self.disk, self.end, &[1])?;
+        self.is_in_doubt = false;
+        self.end += 5 + body.len() as u64;
+        self.next += 1;
+        Ok(())
+    }
+
+    fn is_full(&self, size: usize) -> bool
+        requires { size ≤ 2097152 }
+        ensures full { IsTrue result → IsFull self.now.end self.now.next size }
+        ensures room { result ≡ false → (self.now.end + 6 + size ≤ 2 ^ 40) × (self.now.next ≤ 2 ^ 48) }
+    {
+        self.end + 6 + size as u64 > 1 << 40 || self.next > 1 << 48
+    }
+
+    /// Takes an entry back that is in doubt: at `Ok` no stop leaves it any more. It makes two device calls where
+    /// one is in doubt, else none.
+    pub fn settle(&mut self) -> Result<(), Failed>
+        ensures nothing { self.old.doubt ≡ None → OnOk result (self.new ≡ self.old) }
+        ensures settled { OnOk result (self.new.doubt ≡ None) }
+        ensures doubtful { OnErr result (self.new.doubt ≡ self.old.doubt) }
+        ensures end { self.new.end ≡ self.old.end }
+        ensures next { self.new.next ≡ self.old.next }
+        ensures cause { HasCause (D.faults self.old.disk) (D.faults self.new.disk) result }
+        ensures same { D.identity self.new.disk ≡ D.identity self.old.disk }
+
+        // what every stop leaves
+        ensures kept { (head : HeadOf) (bodies : _) → Keeps D.tells D.may_leave self.old head bodies
+            → Keeps D.tells D.may_leave self.new head bodies }
+        ensures any_moment { (head : HeadOf) (bodies : _) → Keeps D.tells D.may_leave self.old head bodies
+            → LeavesOnly D.moment D.may_have_left self.old.disk self.new.disk
+                (IsAsDoubted self.old.doubt head bodies) }
+    {
+        if self.is_in_doubt {
+            write_synced(&mut self.disk, self.end, &[0])?;
+            self.is_in_doubt = false;
+        }
+        Ok(())
+    }
+}

@@ -1,0 +1,102 @@
+ghost use Rattle.std.specs.Prelude.{◌≡◌, ◌+◌, ◌-◌, ◌^◌, ◌<◌, ◌≤◌, List, ℕ, [], ◌∷◌, ◌++◌, length, take, drop, false, true, Some, None, Ok, Err, IfOk, IfSome, IfErr, IsTrue, option_map};
+ghost use Rattle.std.specs.Borrow.{Bor};
+ghost use Rattle.std.specs.Str.{bytes_eq};
+ghost use Rattle.sc_frame.specs.Fields.{field_number};
+ghost use Rattle.sc_journal.specs.Texts.{mark, first_number, is_size, body_at, entries_from, held, has_open_header};
+ghost use Rattle.sc_journal.specs.declared.fault.JournalFault.TheVariants.{Damaged, NoMemory};
+
+use crate::fault::JournalFault;
+use byteorder::{BigEndian, ByteOrder};
+use sc_base::Bytes;
+use std::alloc::Global;
+
+const MARK: &[u8] = b"SCXHOST";
+
+// What a text holds, and the place of its closed gate.
+#[derive(Drop)]
+pub struct Found {
+    pub first: u64,
+    pub bodies: Vec<Bytes>,
+    pub end: usize,
+}
+
+// For `create`: whether a text begins with an open header.
+pub fn has_open_header(text: &[u8]) -> bool
+    ensures { result ≡ has_open_header text.now }
+{
+    text.len() >= 20 && text[0] == 1 && has_mark(text)
+}
+
+fn has_mark(text: &[u8]) -> bool
+    requires { 8 ≤ length text.now }
+    ensures { result ≡ bytes_eq (take 7 (drop 1 text.now)) mark }
+{
+    &text[1..8] == MARK
+}
+
+// The number at a place in the header.
+fn format(text: &[u8]) -> u32
+    requires { 12 ≤ length text.now }
+    ensures { result ≡ field_number 4 (drop 8 text.now) }
+{
+    BigEndian::read_u32(&text[8..])
+}
+
+fn first(text: &[u8]) -> u64
+    requires { 20 ≤ length text.now }
+    ensures { result ≡ field_number 8 (drop 12 text.now) }
+{
+    BigEndian::read_u64(&text[12..])
+}
+
+// The first number that the header says, or the first case of damage.
+fn first_number(text: &[u8]) -> Result<u64, u64>
+    ensures { result ≡ first_number text.now }
+{
+    if text.len() < 21 || text[0] != 1 {
+        return Err(0);
+    }
+    if !has_mark(text) {
+        return Err(1);
+    }
+    if format(text) != 1 {
+        return Err(8);
+    }
+    let number = first(text);
+    if number < 1 || number > 1 << 48 {
+        return Err(12);
+    }
+    Ok(number)
+}
+
+// The length of an entry's body, from the bytes behind its gate.
+#[tactic(auto, unfolding(sc_frame::specs::Fields::field_number))]
+fn size_at(rest: &[u8]) -> usize
+    requires { 4 ≤ length rest.now }
+    ensures { result ≡ field_number 4 rest.now }
+{
+    BigEndian::read_u32(rest) as usize
+}
+
+// Whether a body of that size, its length and the gate behind it lie within so many bytes.
+fn is_size(size: usize, room: usize) -> bool
+    ensures value { result ≡ is_size size room }
+    ensures within { IsTrue result → (1 ≤ size) × ((size ≤ 2097152) × (4 + size < room)) }
+{
+    size >= 1 && size <= 2097152 && size + 4 < room
+}
+
+// The body of an entry, from the bytes behind its gate.
+fn body_at(number: u64, rest: &[u8]) -> Option<&[u8]>
+    ensures body { option_map (λ (b : Bor (List ℕ)). b.now) result ≡ body_at number rest.now }
+    ensures size { IfSome result (λ b. (1 ≤ length b.now) × ((length b.now ≤ 2097152) × (4 + length b.now < length rest.now))) }
+{
+    if number > 1 << 48 || rest.len() < 4 {
+        return None;
+    }
+    let size = size_at(rest);
+    if !is_size(size, rest.len()) {
+        return None;
+    }
+    Some(&rest[4..4 + size])
+}
