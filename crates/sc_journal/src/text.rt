@@ -1,9 +1,9 @@
-ghost use Rattle.std.specs.Prelude.{◌≡◌, ◌+◌, ◌-◌, ◌^◌, ◌<◌, ◌≤◌, List, ℕ, [], ◌∷◌, ◌++◌, length, take, drop, false, true, Some, None, Ok, Err, IfOk, IfSome, IfErr, IsTrue, option_map};
+ghost use Rattle.std.specs.Prelude.{◌≡◌, ◌+◌, ◌-◌, ◌^◌, ◌<◌, ◌≤◌, List, ℕ, [], ◌∷◌, ◌++◌, length, take, drop, false, true, Some, None, Ok, Err, IfOk, IfSome, OnOk, OnSome, IsTrue, ◌≢◌, flat_map, option_map};
 ghost use Rattle.std.specs.Borrow.{Bor};
 ghost use Rattle.std.specs.Str.{bytes_eq};
 ghost use Rattle.sc_frame.specs.Fields.{field_number};
-ghost use Rattle.sc_journal.specs.Texts.{mark, first_number, is_size, body_at, entries_from, held, has_open_header};
-ghost use Rattle.sc_journal.specs.declared.fault.JournalFault.TheVariants.{Damaged, NoMemory};
+ghost use Rattle.sc_journal.specs.Texts.{mark, first_number, is_size, body_at, entries_from, held, has_open_header, entry};
+ghost use Rattle.sc_journal.specs.declared.fault.JournalFault.TheVariants.{Damaged, Disk};
 
 use crate::fault::JournalFault;
 use byteorder::{BigEndian, ByteOrder};
@@ -51,7 +51,9 @@ fn first(text: &[u8]) -> u64
 
 // The first number that the header says, or the first case of damage.
 fn first_number(text: &[u8]) -> Result<u64, u64>
-    ensures { result ≡ first_number text.now }
+    ensures number { result ≡ first_number text.now }
+    ensures range { IfOk result (λ n. n ≤ 2 ^ 48) }
+    ensures long { OnOk result (21 ≤ length text.now) }
 {
     if text.len() < 21 || text[0] != 1 {
         return Err(0);
@@ -89,6 +91,7 @@ fn is_size(size: usize, room: usize) -> bool
 // The body of an entry, from the bytes behind its gate.
 fn body_at(number: u64, rest: &[u8]) -> Option<&[u8]>
     ensures body { option_map (λ (b : Bor (List ℕ)). b.now) result ≡ body_at number rest.now }
+    ensures number { OnSome result (number ≤ 2 ^ 48) }
     ensures size { IfSome result (λ b. (1 ≤ length b.now) × ((length b.now ≤ 2097152) × (4 + length b.now < length rest.now))) }
 {
     if number > 1 << 48 || rest.len() < 4 {
@@ -99,4 +102,52 @@ fn body_at(number: u64, rest: &[u8]) -> Option<&[u8]>
         return None;
     }
     Some(&rest[4..4 + size])
+}
+
+// The bodies of the entries up to the first closed gate, with the number of the first.
+fn entries(alloc: Global, text: &[u8], first: u64) -> Result<Found, JournalFault>
+    requires long { 21 ≤ length text.now }
+    requires most { first ≤ 2 ^ 48 }
+    ensures bodies { IfOk result (λ f.
+        entries_from (length text.now) first 20 (drop 20 text.now) ≡ Ok f.bodies.items) }
+    ensures first { IfOk result (λ f. f.first ≡ first) }
+    ensures last { IfOk result (λ f. first + length f.bodies.items ≤ 2 ^ 48 + 1) }
+    ensures end { IfOk result (λ f. f.end ≡ 20 + length (flat_map entry f.bodies.items)) }
+    ensures within { IfOk result (λ f. f.end < length text.now) }
+    ensures damaged { (at : ℕ) → result ≡ Err (Damaged at)
+        → entries_from (length text.now) first 20 (drop 20 text.now) ≡ Err at }
+    ensures disk { result ≢ Err Disk }
+{
+    let mut bodies = Vec::new(alloc);
+    let mut at = 20;
+    let mut number = first;
+    while text[at] == 1 {
+        let Some(body) = body_at(number, &text[at + 1..]) else {
+            return Err(JournalFault::Damaged(at as u64));
+        };
+        bodies.push(Bytes::from_slice(alloc, body)?)?;
+        at += 5 + body.len();
+        number += 1;
+    }
+    Ok(Found {
+        first,
+        bodies,
+        end: at,
+    })
+}
+
+// What a text holds, or where it is damaged.
+pub fn read_text(alloc: Global, text: &[u8]) -> Result<Found, JournalFault>
+    ensures bodies { IfOk result (λ f. held text.now ≡ Ok f.bodies.items) }
+    ensures first { IfOk result (λ f. first_number text.now ≡ Ok f.first) }
+    ensures last { IfOk result (λ f. f.first + length f.bodies.items ≤ 2 ^ 48 + 1) }
+    ensures end { IfOk result (λ f. f.end ≡ 20 + length (flat_map entry f.bodies.items)) }
+    ensures within { IfOk result (λ f. f.end < length text.now) }
+    ensures damaged { (at : ℕ) → result ≡ Err (Damaged at) → held text.now ≡ Err at }
+    ensures disk { result ≢ Err Disk }
+{
+    match first_number(text) {
+        Ok(first) => entries(alloc, text, first),
+        Err(place) => Err(JournalFault::Damaged(place)),
+    }
 }
