@@ -1,10 +1,10 @@
 -- How the entries of a text are read one after another.
-use Rattle.std.proofs.Common.{◌≡◌, ◌≢◌, ℕ, suc, ◌+◌, ◌-◌, ◌^◌, ◌<◌, ◌≤◌, ◌==◌, true, false, cond, Option, None, Some, Result, Ok, Err, List, [], ◌∷◌, ◌++◌, length, get_or, take, drop, flat_map, refl, sym, ◌∙◌, ap, arith, append_assoc, length-append}
+use Rattle.std.proofs.Common.{◌≡◌, ◌≢◌, ℕ, suc, ◌+◌, ◌-◌, ◌^◌, ◌<◌, ◌≤◌, ◌==◌, true, false, cond, Option, None, Some, Result, Ok, Err, List, [], ◌∷◌, ◌++◌, length, get_or, take, drop, flat_map, refl, sym, ◌∙◌, ap, arith, append_assoc, length-append, take-append-drop}
 use Rattle.std.proofs.lemmas.Bool.Decides.{nat_tests}
 use Rattle.std.proofs.lemmas.List.{append-nil, take_rest, drop_more, drop-drop, flat_map_more}
 use Rattle.sc_frame.specs.Fields.{number_field}
 use Rattle.sc_frame.proofs.FieldLemmas.{length-number_field}
-use Rattle.sc_journal.specs.Texts.{entry, body_at, joined, with_body, entries_from}
+use Rattle.sc_journal.specs.Texts.{HeadOf, header, entry, front, body_at, joined, with_body, entries_from}
 
 -- these bodies in front of those
 abbrev pub prefixed : List (List ℕ) → Result (List (List ℕ)) ℕ → Result (List (List ℕ)) ℕ
@@ -88,3 +88,29 @@ module _ (number at : ℕ) (text : List ℕ) (bodies : List (List ℕ)) (all : R
   pub read-closed : get_or text at 0 ≢ 1 → all ≡ Ok bodies
   read-closed shut =
       sym stepped ∙ ap (prefixed bodies) (entries-closed (length text - length bodies - 1) number at text within shut) ∙ ap Ok (append-nil bodies)
+
+-- ---- the bytes that were read
+
+-- the entries so far, and one more
+pub bytes-more : (text : List ℕ) (at : ℕ) (bodies : List (List ℕ)) (body rest : List ℕ) → at < length text → get_or text at 0 ≡ 1
+    → rest ≡ take (length text - (at + 1)) (drop (at + 1) text) → rest ≡ number_field 4 (length body) ++ (body ++ drop (4 + length body) rest)
+    → drop 20 text ≡ flat_map entry bodies ++ drop at text → drop 20 text ≡ flat_map entry (bodies ++ body ∷ []) ++ drop (at + (5 + length body)) text
+bytes-more text at bodies body rest within gate is form so_far =
+    let place : at + 1 + (4 + length body) ≡ at + (5 + length body) = omega arith in
+    let behind : drop (4 + length body) rest ≡ drop (at + (5 + length body)) text =
+    ap (drop (4 + length body)) (is ∙ take_rest text (at + 1)) ∙ drop-drop (4 + length body) (at + 1) text ∙ ap (λ (n : ℕ). drop n text) place in
+    let here : drop at text ≡ entry body ++ drop (at + (5 + length body)) text =
+    drop_more text at 0 within ∙ ap (λ (g : ℕ). g ∷ drop (at + 1) text) gate ∙ ap (λ (l : List ℕ). 1 ∷ l) (sym (is ∙ take_rest text (at + 1)) ∙ form)
+    ∙ ap (λ (l : List ℕ). 1 ∷ (number_field 4 (length body) ++ (body ++ l))) behind
+    ∙ ap (λ (l : List ℕ). 1 ∷ l) (sym (append_assoc (number_field 4 (length body)) body (drop (at + (5 + length body)) text))) in
+    so_far ∙ ap (λ (l : List ℕ). flat_map entry bodies ++ l) here
+    ∙ sym (append_assoc (flat_map entry bodies) (entry body) (drop (at + (5 + length body)) text))
+    ∙ ap (λ (l : List ℕ). l ++ drop (at + (5 + length body)) text) (flat_map_more entry [] bodies body)
+
+-- all of them, behind their header
+pub bytes-all : (head : HeadOf) (text : List ℕ) (at : ℕ) (bodies : List (List ℕ)) → at < length text → take 20 text ≡ header head
+    → drop 20 text ≡ flat_map entry bodies ++ drop at text → text ≡ front head bodies ++ get_or text at 0 ∷ drop (at + 1) text
+bytes-all head text at bodies within first rest =
+    sym (take-append-drop 20 text) ∙ (λ i. first i ++ rest i)
+    ∙ sym (append_assoc (header head) (flat_map entry bodies) (drop at text))
+    ∙ ap (λ (l : List ℕ). front head bodies ++ l) (drop_more text at 0 within)

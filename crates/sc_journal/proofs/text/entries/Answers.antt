@@ -1,6 +1,7 @@
-use Rattle.std.proofs.Common.{◌≡◌, ◌∙◌, ℕ, ◌+◌, ◌-◌, ◌<◌, ◌≤◌, Option, None, Some, Result, Ok, Err, List, [], ◌∷◌, ◌++◌, length, take, drop, flat_map, sym, ap, subst, arith, length-append, length-drop, length-take}
-use Rattle.sc_journal.specs.Texts.{entry, entries_from}
-use Rattle.sc_journal.proofs.Reading.{prefixed, read-more, read-damaged, read-closed, length-entries}
+use Rattle.std.proofs.Common.{◌≡◌, ◌∙◌, ℕ, ◌+◌, ◌-◌, ◌<◌, ◌≤◌, Option, None, Some, Result, Ok, Err, List, [], ◌∷◌, ◌++◌, length, get_or, take, drop, flat_map, All, refl, sym, ap, subst, arith, length-append, length-drop, length-take}
+use Rattle.std.proofs.lemmas.List.Elements.{All-push}
+use Rattle.sc_journal.specs.Texts.{entry, IsBody, entries_from}
+use Rattle.sc_journal.proofs.Reading.{prefixed, read-more, read-damaged, read-closed, length-entries, bytes-more, bytes-all}
 use Rattle.sc_journal.proofs.text.entries.Goals as goal
 
 pub returns-in_default-clause-damaged : goal.returns-in_default-clause-damaged
@@ -29,6 +30,9 @@ loop-at-preserved c =
       end = omega (arith, bytes);
       number = omega (arith, count);
       last = omega (arith, number);
+      text = subst (λ (l : List (List ℕ)). drop 20 c.args.text.now ≡ flat_map entry l ++ drop (c.loop-at.at + (5 + length body)) c.args.text.now) (sym new)
+          (bytes-more c.args.text.now c.loop-at.at c.loop-at.bodies.items body _ i.within c.loop-at-test.true refl c.in-Some.ensures.entry i.text);
+      sizes = subst (All IsBody) (sym new) (All-push IsBody c.loop-at.bodies.items body i.sizes (size.0, size.1.0));
       rest = subst (λ (l : List (List ℕ)). prefixed l (entries_from (length c.args.text.now - length l) (c.loop-at.number + 1) (c.loop-at.at + (5 + length body)) (drop (c.loop-at.at + (5 + length body)) c.args.text.now)) ≡ entries_from (length c.args.text.now) c.args.first 20 (drop 20 c.args.text.now)) (sym new) rest;
     }
 
@@ -36,3 +40,14 @@ pub returns-clause-bodies : goal.returns-clause-bodies
 returns-clause-bodies c =
     let i = c.loop-at.invariant in
     read-closed c.loop-at.number c.loop-at.at c.args.text.now c.loop-at.bodies.items _ i.within i.few i.rest c.loop-at-test.false
+
+pub returns-clause-holds : goal.returns-clause-holds
+returns-clause-holds c =
+    let i = c.loop-at.invariant in
+    record {
+      legal = record { format = refl; some = c.requires.some; first = c.requires.most; last = omega (arith, i.number, i.last); sizes = i.sizes };
+      gate = get_or c.args.text.now c.loop-at.at 0;
+      rest = drop (c.loop-at.at + 1) c.args.text.now;
+      whole = bytes-all (record { format = 1; first = c.args.first }) c.args.text.now c.loop-at.at c.loop-at.bodies.items i.within c.requires.header i.text;
+      closed = c.loop-at-test.false;
+    }
