@@ -6,6 +6,7 @@
 
 mod fault;
 mod journal;
+mod load;
 mod text;
 mod write;
 
