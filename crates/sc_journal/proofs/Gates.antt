@@ -46,7 +46,7 @@ torn_gate p g rest c torn =
     sym (take-append-drop (length p) c) ∙ ap (λ (l : List ℕ). l ++ drop (length p) c) first ∙ ap (λ (l : List ℕ). p ++ l) last
 
 -- and is the byte that stands there
-written_gate : (p : List ℕ) (g b : ℕ) (rest c : List ℕ) → IsTorn (length p) 1 (p ++ g ∷ rest) c → take 1 (drop (length p) c) ≡ b ∷ [] → c ≡ p ++ b ∷ rest
+pub written_gate : (p : List ℕ) (g b : ℕ) (rest c : List ℕ) → IsTorn (length p) 1 (p ++ g ∷ rest) c → take 1 (drop (length p) c) ≡ b ∷ [] → c ≡ p ++ b ∷ rest
 written_gate p g b rest c torn stands =
     let is = torn_gate p g rest c torn in
     let gate : get_or c (length p) 0 ∷ [] ≡ b ∷ [] =

@@ -1,5 +1,6 @@
 pub mod Gates
 pub mod Images
 pub mod Kept
+pub mod NewTexts
 pub mod Reading
 pub mod Runs

@@ -1,11 +1,12 @@
-ghost use Rattle.std.specs.Prelude.{◌≡◌, ◌⊎◌, ◌+◌, ◌^◌, ◌<◌, ◌≤◌, ◌↔◌, [], ◌∷◌, ◌++◌, length, false, None, Some, IsTrue, IsSome, OnOk, OnErr};
+ghost use Rattle.std.specs.Prelude.{◌≡◌, ◌⊎◌, ◌+◌, ◌^◌, ◌<◌, ◌≤◌, ◌↔◌, [], ◌∷◌, ◌++◌, length, false, None, Some, Ok, Err, ℕ, vec_capacity, IsTrue, IsSome, IfOk, IfErr, OnOk, OnErr, MatchResult};
 ghost use Rattle.sc_dev.specs.Causes.{HasCause, Rose};
-ghost use Rattle.sc_dev.specs.Disks.{DiskOf};
+ghost use Rattle.sc_dev.specs.Disks.{DiskOf, Within};
 ghost use Rattle.sc_journal.specs.Journals.{Keeps, IsWithOrWithout, IsAsDoubted, IsFull};
-ghost use Rattle.sc_journal.specs.Stops.{LeavesOnly};
-ghost use Rattle.sc_journal.specs.Texts.{HeadOf, Holds};
+ghost use Rattle.sc_journal.specs.Stops.{LeavesOnly, Passes};
+ghost use Rattle.sc_journal.specs.Texts.{HeadOf, held};
 
 use crate::fault::{AppendFault, JournalFault};
+use crate::load::{Loaded, load};
 use crate::write::{fill, write_synced};
 use sc_base::Bytes;
 use sc_dev::{Disk, Failed};
@@ -41,6 +42,8 @@ impl<D: Disk> Model for Journal<D> {
 #[derive(Drop)]
 pub struct Opened<D: Disk> {
     pub journal: Journal<D>,
+    /// The number of the first.
+    pub first: u64,
     pub bodies: Vec<Bytes>,
 }
 
@@ -52,6 +55,62 @@ pub struct NotOpened<D: Disk> {
 }
 
 impl<D: Disk> Journal<D> {
+    /// Opens a journal: syncs it and reads what it holds. The disk comes back where that fails.
+    pub fn open(alloc: Global, disk: D) -> Result<Opened<D>, NotOpened<D>>
+        // exactly the bodies of the text, or the first case of damage
+        ensures bodies { D.tells → IfOk result (λ o. held (D.reads disk).journal ≡ Ok o.bodies.items) }
+        ensures damaged { D.tells → IfErr result (λ n. (at : ℕ) → n.fault ≡ JournalFault.Damaged at
+            → held (D.reads disk).journal ≡ Err at) }
+
+        // every stop leaves them
+        ensures keeps { D.tells → IfOk result (λ o.
+            Keeps D.tells D.may_leave o.journal (record { format = 1; first = o.first }) o.bodies.items) }
+        ensures settled { IfOk result (λ o. o.journal.doubt ≡ None) }
+
+        // only where the disk's faults rose
+        ensures disk { IfErr result (λ n. n.fault ≡ JournalFault.Disk → Rose (D.faults disk) (D.faults n.disk)) }
+        ensures later { MatchResult result (λ o. D.faults disk ≤ D.faults o.journal.disk)
+            (λ n. D.faults disk ≤ D.faults n.disk) }
+
+        // a stop leaves what it left before
+        ensures images { MatchResult result (λ o. Within (D.may_leave disk) (D.may_leave o.journal.disk))
+            (λ n. Within (D.may_leave disk) (D.may_leave n.disk)) }
+        ensures passes { MatchResult result
+            (λ o. Passes D.moment D.may_have_left disk o.journal.disk (D.may_leave disk))
+            (λ n. Passes D.moment D.may_have_left disk n.disk (D.may_leave disk)) }
+        ensures same { MatchResult result (λ o. D.identity o.journal.disk ≡ D.identity disk)
+            (λ n. D.identity n.disk ≡ D.identity disk) }
+    {
+        let mut disk = disk;
+        match load(alloc, &mut disk) {
+            Ok(loaded) => Ok(Journal::opened(disk, loaded)),
+            Err(fault) => Err(NotOpened { disk, fault }),
+        }
+    }
+
+    fn opened(disk: D, loaded: Loaded) -> Opened<D>
+        requires last { loaded.found.first + length loaded.found.bodies.items ≤ 2 ^ 48 + 1 }
+        requires end { loaded.found.end < 2 ^ 40 }
+        requires room { 2097157 ≤ vec_capacity loaded.buffer }
+        ensures journal { result.journal ≡ record { disk = disk; end = loaded.found.end;
+            next = loaded.found.first + length loaded.found.bodies.items; doubt = None } }
+        ensures first { result.first ≡ loaded.found.first }
+        ensures bodies { result.bodies ≡ loaded.found.bodies }
+    {
+        let Loaded { found, buffer } = loaded;
+        Opened {
+            journal: Journal {
+                disk,
+                buffer,
+                end: found.end as u64,
+                next: found.first + found.bodies.len() as u64,
+                is_in_doubt: false,
+            },
+            first: found.first,
+            bodies: found.bodies,
+        }
+    }
+
     /// Whether an entry is in doubt.
     pub fn in_doubt(&self) -> bool
         ensures { IsTrue result ↔ IsSome self.now.doubt }

@@ -7,8 +7,10 @@
 mod fault;
 mod journal;
 mod load;
+mod making;
 mod text;
 mod write;
 
 pub use fault::{AppendFault, CreateFault, JournalFault};
 pub use journal::{Journal, NotOpened, Opened};
+pub use making::create;
