@@ -1,4 +1,5 @@
 pub mod Gates
+pub mod Held
 pub mod Images
 pub mod Kept
 pub mod NewTexts

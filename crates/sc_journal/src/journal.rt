@@ -1,9 +1,9 @@
-ghost use Rattle.std.specs.Prelude.{◌≡◌, ◌⊎◌, ◌+◌, ◌^◌, ◌<◌, ◌≤◌, ◌↔◌, [], ◌∷◌, ◌++◌, length, false, None, Some, Ok, Err, ℕ, vec_capacity, IsTrue, IsSome, IfOk, IfErr, OnOk, OnErr, MatchResult};
+ghost use Rattle.std.specs.Prelude.{◌≡◌, ◌≢◌, ◌⊎◌, ◌+◌, ◌^◌, ◌<◌, ◌≤◌, ◌↔◌, [], ◌∷◌, ◌++◌, length, false, None, Some, Ok, Err, ℕ, vec_capacity, IsTrue, IsSome, IfOk, IfErr, OnOk, OnErr, MatchResult};
 ghost use Rattle.sc_dev.specs.Causes.{HasCause, Rose};
 ghost use Rattle.sc_dev.specs.Disks.{DiskOf, Within};
 ghost use Rattle.sc_journal.specs.Journals.{Keeps, IsWithOrWithout, IsAsDoubted, IsFull};
 ghost use Rattle.sc_journal.specs.Stops.{LeavesOnly, Passes};
-ghost use Rattle.sc_journal.specs.Texts.{HeadOf, held};
+ghost use Rattle.sc_journal.specs.Texts.{HeadOf, Holds, held};
 
 use crate::fault::{AppendFault, JournalFault};
 use crate::load::{Loaded, load};
@@ -61,6 +61,11 @@ impl<D: Disk> Journal<D> {
         ensures bodies { D.tells → IfOk result (λ o. held (D.reads disk).journal ≡ Ok o.bodies.items) }
         ensures damaged { D.tells → IfErr result (λ n. (at : ℕ) → n.fault ≡ JournalFault.Damaged at
             → held (D.reads disk).journal ≡ Err at) }
+
+        // so where the text holds bodies, these and nothing but a fault or want of memory
+        ensures whole { D.tells → (head : HeadOf) (bodies : _) → Holds head bodies (D.reads disk).journal
+            → MatchResult result (λ o. (o.first ≡ head.first) × (o.bodies.items ≡ bodies))
+                (λ n. (at : ℕ) → n.fault ≢ JournalFault.Damaged at) }
 
         // every stop leaves them
         ensures keeps { D.tells → IfOk result (λ o.

@@ -2,7 +2,7 @@ ghost use Rattle.std.specs.Prelude.{◌≡◌, ◌≢◌, ◌+◌, ◌^◌, ◌<
 ghost use Rattle.sc_dev.specs.Causes.{Rose};
 ghost use Rattle.sc_dev.specs.Disks.{DiskOf, Fits, Within};
 ghost use Rattle.sc_journal.specs.Stops.{Passes};
-ghost use Rattle.sc_journal.specs.Texts.{held, front, Holds};
+ghost use Rattle.sc_journal.specs.Texts.{held, first_number, front, Holds};
 
 use crate::fault::JournalFault;
 use crate::text::{Found, read_text};
@@ -46,6 +46,7 @@ pub struct Loaded {
 // Syncs the journal and reads what it holds.
 pub fn load<D: Disk>(alloc: Global, disk: &mut D) -> Result<Loaded, JournalFault>
     ensures bodies { D.tells → IfOk result (λ l. held (D.reads disk.old).journal ≡ Ok l.found.bodies.items) }
+    ensures first { D.tells → IfOk result (λ l. first_number (D.reads disk.old).journal ≡ Ok l.found.first) }
     ensures holds { D.tells → IfOk result (λ l. (c : DiskOf) → D.may_leave disk.new c
         → Holds (record { format = 1; first = l.found.first }) l.found.bodies.items c.journal) }
     ensures end { IfOk result (λ l.
