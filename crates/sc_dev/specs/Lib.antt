@@ -1,3 +1,13 @@
 pub mod Causes
+pub mod DiskInside
+pub mod Disks
+pub mod Histories
+pub mod MemDiskFacts
+pub mod MemDisks
 pub mod Memory
+pub mod PartInside
+pub mod Parts
+pub mod PartsInside
+pub mod Ranges
+pub mod Steps
 pub mod Transfer

@@ -5,7 +5,11 @@
 #![tactic(auto)]
 
 mod calls;
+mod disk;
 mod failed;
+mod mem_disk;
+mod mem_part;
+mod mem_parts;
 mod mem_sink;
 mod mem_source;
 mod sink;
@@ -14,7 +18,9 @@ mod sure;
 mod transfer;
 mod unread;
 
+pub use disk::{Disk, Part};
 pub use failed::Failed;
+pub use mem_disk::MemDisk;
 pub use mem_sink::MemSink;
 pub use mem_source::MemSource;
 pub use sink::Sink;

@@ -43,7 +43,8 @@ impl Unread {
     }
 }
 
-fn copy_front(from: &[u8], into: &mut [u8]) -> usize
+// Copies as many bytes as there is room for.
+pub fn copy_front(from: &[u8], into: &mut [u8]) -> usize
     ensures count { result ≡ min (length into.old) (length from.now) }
     ensures bytes { take result into.new ≡ take result from.now }
 {

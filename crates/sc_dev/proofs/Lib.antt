@@ -1,0 +1,4 @@
+pub mod DiskSteps
+pub mod Filled
+pub mod StepLemmas
+pub mod Undone

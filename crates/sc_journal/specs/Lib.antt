@@ -1,0 +1,4 @@
+pub mod JournalInside
+pub mod Journals
+pub mod Stops
+pub mod Texts

@@ -1,0 +1,223 @@
+ghost use Rattle.std.specs.Prelude.{◌≡◌, ◌≢◌, ◌⊎◌, ◌+◌, ◌^◌, ◌<◌, ◌≤◌, ◌↔◌, [], ◌∷◌, ◌++◌, length, false, None, Some, Ok, Err, ℕ, vec_capacity, IsTrue, IsSome, IfOk, IfErr, OnOk, OnErr, MatchResult};
+ghost use Rattle.sc_dev.specs.Causes.{HasCause, Rose};
+ghost use Rattle.sc_dev.specs.Disks.{DiskOf, Within};
+ghost use Rattle.sc_journal.specs.Journals.{Keeps, IsWithOrWithout, IsAsDoubted, IsFull};
+ghost use Rattle.sc_journal.specs.Stops.{LeavesOnly, Passes};
+ghost use Rattle.sc_journal.specs.Texts.{HeadOf, Holds, held};
+
+use crate::fault::{AppendFault, JournalFault};
+use crate::load::{Loaded, load};
+use crate::write::{fill, write_synced};
+use sc_base::Bytes;
+use sc_dev::{Disk, Failed};
+use std::alloc::Global;
+use std::marker::Model;
+
+/// A journal that was opened: entries are added at its end.
+///
+/// Where a call failed at the disk, an entry may be in doubt: a stop may leave it or not. It is to be settled
+/// before the next one is added.
+#[derive(Drop)]
+pub struct Journal<D: Disk> {
+    disk: D,
+    buffer: Vec<u8>,
+    end: u64,
+    next: u64,
+    is_in_doubt: bool,
+}
+
+impl<D: Disk> Model for Journal<D> {
+    ghost use Rattle.sc_journal.specs.Journals.{JournalOf};
+
+    ghost Value = { JournalOf D };
+
+    ghost use Rattle.sc_journal.specs.JournalInside.{journal_inside, IsReady};
+
+    ghost view = { journal_inside };
+
+    ghost invariant = { IsReady };
+}
+
+/// A journal and the bodies that it holds, the first of them first.
+#[derive(Drop)]
+pub struct Opened<D: Disk> {
+    pub journal: Journal<D>,
+    /// The number of the first.
+    pub first: u64,
+    pub bodies: Vec<Bytes>,
+}
+
+/// Why a journal was not opened, and its disk.
+#[derive(Drop)]
+pub struct NotOpened<D: Disk> {
+    pub disk: D,
+    pub fault: JournalFault,
+}
+
+impl<D: Disk> Journal<D> {
+    /// Opens a journal: syncs it and reads what it holds. The disk comes back where that fails.
+    pub fn open(alloc: Global, disk: D) -> Result<Opened<D>, NotOpened<D>>
+        // exactly the bodies of the text, or the first case of damage
+        ensures bodies { D.tells → IfOk result (λ o. held (D.reads disk).journal ≡ Ok o.bodies.items) }
+        ensures damaged { D.tells → IfErr result (λ n. (at : ℕ) → n.fault ≡ JournalFault.Damaged at
+            → held (D.reads disk).journal ≡ Err at) }
+
+        // so where the text holds bodies, these and nothing but a fault or want of memory
+        ensures whole { D.tells → (head : HeadOf) (bodies : _) → Holds head bodies (D.reads disk).journal
+            → MatchResult result (λ o. (o.first ≡ head.first) × (o.bodies.items ≡ bodies))
+                (λ n. (at : ℕ) → n.fault ≢ JournalFault.Damaged at) }
+
+        // every stop leaves them
+        ensures keeps { D.tells → IfOk result (λ o.
+            Keeps D.tells D.may_leave o.journal (record { format = 1; first = o.first }) o.bodies.items) }
+        ensures settled { IfOk result (λ o. o.journal.doubt ≡ None) }
+
+        // only where the disk's faults rose
+        ensures disk { IfErr result (λ n. n.fault ≡ JournalFault.Disk → Rose (D.faults disk) (D.faults n.disk)) }
+        ensures later { MatchResult result (λ o. D.faults disk ≤ D.faults o.journal.disk)
+            (λ n. D.faults disk ≤ D.faults n.disk) }
+
+        // a stop leaves what it left before
+        ensures images { MatchResult result (λ o. Within (D.may_leave disk) (D.may_leave o.journal.disk))
+            (λ n. Within (D.may_leave disk) (D.may_leave n.disk)) }
+        ensures passes { MatchResult result
+            (λ o. Passes D.moment D.may_have_left disk o.journal.disk (D.may_leave disk))
+            (λ n. Passes D.moment D.may_have_left disk n.disk (D.may_leave disk)) }
+        ensures same { MatchResult result (λ o. D.identity o.journal.disk ≡ D.identity disk)
+            (λ n. D.identity n.disk ≡ D.identity disk) }
+    {
+        let mut disk = disk;
+        match load(alloc, &mut disk) {
+            Ok(loaded) => Ok(Journal::opened(disk, loaded)),
+            Err(fault) => Err(NotOpened { disk, fault }),
+        }
+    }
+
+    fn opened(disk: D, loaded: Loaded) -> Opened<D>
+        requires last { loaded.found.first + length loaded.found.bodies.items ≤ 2 ^ 48 + 1 }
+        requires end { loaded.found.end < 2 ^ 40 }
+        requires room { 2097157 ≤ vec_capacity loaded.buffer }
+        ensures journal { result.journal ≡ record { disk = disk; end = loaded.found.end;
+            next = loaded.found.first + length loaded.found.bodies.items; doubt = None } }
+        ensures first { result.first ≡ loaded.found.first }
+        ensures bodies { result.bodies ≡ loaded.found.bodies }
+    {
+        let Loaded { found, buffer } = loaded;
+        Opened {
+            journal: Journal {
+                disk,
+                buffer,
+                end: found.end as u64,
+                next: found.first + found.bodies.len() as u64,
+                is_in_doubt: false,
+            },
+            first: found.first,
+            bodies: found.bodies,
+        }
+    }
+
+    /// Whether an entry is in doubt.
+    pub fn in_doubt(&self) -> bool
+        ensures { IsTrue result ↔ IsSome self.now.doubt }
+    {
+        self.is_in_doubt
+    }
+
+    /// The number of the entry that is added next.
+    pub fn next_number(&self) -> u64
+        ensures { result ≡ self.now.next }
+    {
+        self.next
+    }
+
+    /// The disk's moment.
+    pub fn moment(&self) -> u64
+        ensures { result ≡ D.moment self.now.disk }
+    {
+        self.disk.moment()
+    }
+
+    pub fn into_disk(self) -> D
+        ensures { result ≡ self.disk }
+    {
+        self.disk
+    }
+
+    /// Adds an entry. At `Ok` it is acknowledged: from then on each stop leaves it. It makes four device calls.
+    pub fn append(&mut self, body: &[u8]) -> Result<(), AppendFault>
+        requires settled { self.old.doubt ≡ None }
+        requires some { 1 ≤ length body.now }
+        requires most { length body.now ≤ 2097152 }
+
+        // exactly where there is no room for it, and then no device is called
+        ensures full { result ≡ Err AppendFault.Full → IsFull self.old.end self.old.next (length body.now) }
+        ensures no_room { IsFull self.old.end self.old.next (length body.now) → result ≡ Err AppendFault.Full }
+        ensures untouched { result ≡ Err AppendFault.Full → self.new ≡ self.old }
+
+        // only where the disk's faults rose
+        ensures failed { result ≡ Err AppendFault.Failed → Rose (D.faults self.old.disk) (D.faults self.new.disk) }
+        ensures later { D.faults self.old.disk ≤ D.faults self.new.disk }
+
+        // where it ends, and what is in doubt
+        ensures added { OnOk result ((self.new.end ≡ self.old.end + 5 + length body.now)
+            × ((self.new.next ≡ self.old.next + 1) × (self.new.doubt ≡ None))) }
+        ensures not_added { OnErr result ((self.new.end ≡ self.old.end) × ((self.new.next ≡ self.old.next)
+            × ((self.new.doubt ≡ None) ⊎ (self.new.doubt ≡ Some body.now)))) }
+        ensures time { OnOk result (Rose (D.moment self.old.disk) (D.moment self.new.disk)) }
+        ensures same { D.identity self.new.disk ≡ D.identity self.old.disk }
+
+        // what every stop leaves
+        ensures acknowledged { (head : HeadOf) (bodies : _) → Keeps D.tells D.may_leave self.old head bodies
+            → OnOk result (Keeps D.tells D.may_leave self.new head (bodies ++ body.now ∷ [])) }
+        ensures kept { (head : HeadOf) (bodies : _) → Keeps D.tells D.may_leave self.old head bodies
+            → OnErr result (Keeps D.tells D.may_leave self.new head bodies) }
+        ensures any_moment { (head : HeadOf) (bodies : _) → Keeps D.tells D.may_leave self.old head bodies
+            → LeavesOnly D.moment D.may_have_left self.old.disk self.new.disk
+                (IsWithOrWithout head bodies body.now) }
+    {
+        if self.is_full(body.len()) {
+            return Err(AppendFault::Full);
+        }
+        fill(&mut self.buffer, body);
+        write_synced(&mut self.disk, self.end + 1, &self.buffer)?;
+        self.is_in_doubt = true;
+        write_synced(&mut self.disk, self.end, &[1])?;
+        self.is_in_doubt = false;
+        self.end += 5 + body.len() as u64;
+        self.next += 1;
+        Ok(())
+    }
+
+    fn is_full(&self, size: usize) -> bool
+        requires { size ≤ 2097152 }
+        ensures full { IsTrue result → IsFull self.now.end self.now.next size }
+        ensures room { result ≡ false → (self.now.end + 6 + size ≤ 2 ^ 40) × (self.now.next ≤ 2 ^ 48) }
+    {
+        self.end + 6 + size as u64 > 1 << 40 || self.next > 1 << 48
+    }
+
+    /// Takes an entry back that is in doubt: at `Ok` no stop leaves it any more. It makes two device calls where
+    /// one is in doubt, else none.
+    pub fn settle(&mut self) -> Result<(), Failed>
+        ensures nothing { self.old.doubt ≡ None → OnOk result (self.new ≡ self.old) }
+        ensures settled { OnOk result (self.new.doubt ≡ None) }
+        ensures doubtful { OnErr result (self.new.doubt ≡ self.old.doubt) }
+        ensures end { self.new.end ≡ self.old.end }
+        ensures next { self.new.next ≡ self.old.next }
+        ensures cause { HasCause (D.faults self.old.disk) (D.faults self.new.disk) result }
+        ensures same { D.identity self.new.disk ≡ D.identity self.old.disk }
+
+        // what every stop leaves
+        ensures kept { (head : HeadOf) (bodies : _) → Keeps D.tells D.may_leave self.old head bodies
+            → Keeps D.tells D.may_leave self.new head bodies }
+        ensures any_moment { (head : HeadOf) (bodies : _) → Keeps D.tells D.may_leave self.old head bodies
+            → LeavesOnly D.moment D.may_have_left self.old.disk self.new.disk
+                (IsAsDoubted self.old.doubt head bodies) }
+    {
+        if self.is_in_doubt {
+            write_synced(&mut self.disk, self.end, &[0])?;
+            self.is_in_doubt = false;
+        }
+        Ok(())
+    }
+}
