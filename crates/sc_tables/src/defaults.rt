@@ -161,5 +161,5 @@ fn is_default(transition: &Node) -> bool
 {
     !transition.has(Attribute::Event)
         && !transition.has(Attribute::Cond)
-        && transition.has(Attribute::Target)
+        && !transition.words(Attribute::Target).is_empty()
 }
