@@ -7,3 +7,4 @@ pub mod Members
 pub mod RecordSets
 pub mod Stands
 pub mod Steps
+pub mod Union

@@ -2,3 +2,4 @@ pub mod Conditions
 pub mod Steps
 pub mod Targets
 pub mod Triples
+pub mod Union

@@ -1,0 +1,11 @@
+pub mod Alone
+pub mod Apart
+pub mod Below
+pub mod FineTargets
+pub mod Forks
+pub mod Law
+pub mod LegalDefaults
+pub mod LegalElements
+pub mod NamedStates
+pub mod Numbers
+pub mod Parents
