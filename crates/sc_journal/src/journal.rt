@@ -1,4 +1,4 @@
-ghost use Rattle.std.specs.Prelude.{◌≡◌, ◌≢◌, ◌⊎◌, ◌+◌, ◌^◌, ◌<◌, ◌≤◌, ◌↔◌, [], ◌∷◌, ◌++◌, length, false, None, Some, Ok, Err, ℕ, vec_capacity, IsTrue, IsSome, IfOk, IfErr, OnOk, OnErr, MatchResult};
+ghost use Rattle.std.specs.Prelude.{◌≡◌, ◌≢◌, ◌⊎◌, ◌+◌, ◌^◌, ◌<◌, ◌≤◌, ◌↔◌, [], ◌∷◌, ◌++◌, length, false, None, Some, Ok, Err, ℕ, vec_capacity, IsTrue, IsSome, IsOk, IfOk, IfErr, OnOk, OnErr, MatchResult};
 ghost use Rattle.sc_dev.specs.Causes.{HasCause, Rose};
 ghost use Rattle.sc_dev.specs.Disks.{DiskOf, Within};
 ghost use Rattle.sc_journal.specs.Journals.{Keeps, IsWithOrWithout, IsAsDoubted, IsFull};
@@ -71,6 +71,7 @@ impl<D: Disk> Journal<D> {
         ensures keeps { D.tells → IfOk result (λ o.
             Keeps D.tells D.may_leave o.journal (record { format = 1; first = o.first }) o.bodies.items) }
         ensures settled { IfOk result (λ o. o.journal.doubt ≡ None) }
+        ensures next { IfOk result (λ o. o.journal.next ≡ o.first + length o.bodies.items) }
 
         // only where the disk's faults rose
         ensures disk { IfErr result (λ n. n.fault ≡ JournalFault.Disk → Rose (D.faults disk) (D.faults n.disk)) }
@@ -199,7 +200,7 @@ impl<D: Disk> Journal<D> {
     /// Takes an entry back that is in doubt: at `Ok` no stop leaves it any more. It makes two device calls where
     /// one is in doubt, else none.
     pub fn settle(&mut self) -> Result<(), Failed>
-        ensures nothing { self.old.doubt ≡ None → OnOk result (self.new ≡ self.old) }
+        ensures nothing { self.old.doubt ≡ None → IsOk result × (self.new ≡ self.old) }
         ensures settled { OnOk result (self.new.doubt ≡ None) }
         ensures doubtful { OnErr result (self.new.doubt ≡ self.old.doubt) }
         ensures end { self.new.end ≡ self.old.end }
