@@ -65,7 +65,7 @@ impl<D: Disk> Journal<D> {
         // so where the text holds bodies, these and nothing but a fault or want of memory
         ensures whole { D.tells → (head : HeadOf) (bodies : _) → Holds head bodies (D.reads disk).journal
             → MatchResult result (λ o. (o.first ≡ head.first) × (o.bodies.items ≡ bodies))
-                (λ n. (at : ℕ) → n.fault ≢ JournalFault.Damaged at) }
+            (λ n. (at : ℕ) → n.fault ≢ JournalFault.Damaged at) }
 
         // every stop leaves them
         ensures keeps { D.tells → IfOk result (λ o.
@@ -98,8 +98,12 @@ impl<D: Disk> Journal<D> {
         requires last { loaded.found.first + length loaded.found.bodies.items ≤ 2 ^ 48 + 1 }
         requires end { loaded.found.end < 2 ^ 40 }
         requires room { 2097157 ≤ vec_capacity loaded.buffer }
-        ensures journal { result.journal ≡ record { disk = disk; end = loaded.found.end;
-            next = loaded.found.first + length loaded.found.bodies.items; doubt = None } }
+        ensures journal { result.journal ≡ record {
+          disk = disk;
+          end = loaded.found.end;
+          next = loaded.found.first + length loaded.found.bodies.items;
+          doubt = None;
+        } }
         ensures first { result.first ≡ loaded.found.first }
         ensures bodies { result.bodies ≡ loaded.found.bodies }
     {
@@ -174,7 +178,7 @@ impl<D: Disk> Journal<D> {
             → OnErr result (Keeps D.tells D.may_leave self.new head bodies) }
         ensures any_moment { (head : HeadOf) (bodies : _) → Keeps D.tells D.may_leave self.old head bodies
             → LeavesOnly D.moment D.may_have_left self.old.disk self.new.disk
-                (IsWithOrWithout head bodies body.now) }
+            (IsWithOrWithout head bodies body.now) }
     {
         if self.is_full(body.len()) {
             return Err(AppendFault::Full);
@@ -213,7 +217,7 @@ impl<D: Disk> Journal<D> {
             → Keeps D.tells D.may_leave self.new head bodies }
         ensures any_moment { (head : HeadOf) (bodies : _) → Keeps D.tells D.may_leave self.old head bodies
             → LeavesOnly D.moment D.may_have_left self.old.disk self.new.disk
-                (IsAsDoubted self.old.doubt head bodies) }
+            (IsAsDoubted self.old.doubt head bodies) }
     {
         if self.is_in_doubt {
             write_synced(&mut self.disk, self.end, &[0])?;

@@ -1,7 +1,6 @@
 // What there is between two lines, and what a line makes of it.
-use crate::disks;
-use crate::journals;
 use crate::words::{Words, Work};
+use crate::{disks, journals};
 use sc_dev::MemDisk;
 use sc_journal::Journal;
 use std::alloc::Global;
