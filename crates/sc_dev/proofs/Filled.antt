@@ -1,5 +1,5 @@
 -- A part whose pending ranges are filled is one of the images that a stop may leave.
-use Rattle.std.proofs.Common.{◌≡◌, ℕ, zero, suc, ◌+◌, ◌%◌, List, [], ◌∷◌, ◌++◌, length, get_or, refl, sym, ◌∙◌, ap, subst, arith, length-append}
+use Rattle.std.proofs.Common.{◌≡◌, ℕ, zero, suc, ◌%◌, List, [], ◌∷◌, ◌++◌, length, get_or, refl, sym, ◌∙◌, subst, arith, length-append}
 use Rattle.sc_base.specs.Folds.{each}
 use Rattle.sc_dev.specs.declared.mem_part.Range.{Range}
 use Rattle.sc_dev.specs.Disks.{IsTorn}

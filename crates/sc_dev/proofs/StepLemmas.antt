@@ -1,10 +1,10 @@
 -- What a call of a disk in memory does to the images that a stop may leave.
-use Rattle.std.proofs.Common.{◌≡◌, ◌⊎◌, inl, inr, ⊎_elim, ℕ, zero, suc, ◌+◌, ◌-◌, ◌^◌, ◌<◌, ◌≤◌, min, max, List, [], ◌∷◌, length, take, drop, refl, sym, ◌∙◌, ap, subst, arith}
+use Rattle.std.proofs.Common.{◌≡◌, ◌⊎◌, inl, inr, ℕ, zero, suc, ◌≤◌, List, [], ◌∷◌, length, take, drop, refl, sym, ◌∙◌, ap, subst, arith}
 use Rattle.sc_dev.specs.declared.disk.Part.{Part}
 use Rattle.sc_dev.specs.declared.disk.Part.TheVariants.{Journal, SlotA, SlotB}
 use Rattle.sc_dev.specs.Causes.{risen}
-use Rattle.sc_dev.specs.Disks.{DiskOf, IsTorn, Torn, Elapses, Fits, Follows, Within, part_of, with_part}
-use Rattle.sc_dev.specs.Histories.{Done, History, passed, wrote, lost, synced, after_call, put_over, bytes_after, LeavesAfter, read_bytes, MayLeave, furthest, furthest_in}
+use Rattle.sc_dev.specs.Disks.{DiskOf, Torn, Fits, Follows, Within, part_of}
+use Rattle.sc_dev.specs.Histories.{Done, History, passed, wrote, lost, synced, bytes_after, LeavesAfter, read_bytes, MayLeave, furthest_in}
 use Rattle.sc_dev.specs.MemDisks.{PartsOf, PartsFit, MemDiskOf, PartsLeave, MightHaveLeft, with_call, parts_read, parts_ago, calls_made, moment_of}
 use Rattle.sc_dev.specs.MemDiskFacts.{leaves-read, torn-same}
 use Rattle.sc_dev.specs.Ranges.{length-put_over, torn-put_over, put_over-stands}

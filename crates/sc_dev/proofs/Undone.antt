@@ -1,10 +1,10 @@
 -- A write that is undone leaves the bytes that it found.
-use Rattle.std.proofs.Common.{◌≡◌, inl, inr, ℕ, ◌+◌, ◌-◌, ◌<◌, ◌≤◌, min, max, List, [], ◌∷◌, ◌++◌, length, get_or, take, drop, refl, sym, ◌∙◌, ap, ap₂, arith, length-append, length-take, length-drop}
+use Rattle.std.proofs.Common.{◌≡◌, inl, inr, ℕ, ◌+◌, ◌-◌, ◌<◌, ◌≤◌, min, max, List, ◌∷◌, ◌++◌, length, get_or, take, drop, refl, ◌∙◌, ap, arith, length-append, length-take, length-drop}
 use Rattle.std.proofs.lemmas.Bool.{cases_lt}
 use Rattle.std.proofs.lemmas.List.{ext_get_or, get_or-take, get_or-drop, get_or_append_left, get_or-append_right, length-take-le, take_at, drop_at}
 use Rattle.sc_dev.specs.declared.mem_part.Change.{Change}
 use Rattle.sc_dev.specs.declared.mem_part.Change.TheVariants.{Wrote}
-use Rattle.sc_dev.specs.Histories.{History, wrote, after_call, put_over}
+use Rattle.sc_dev.specs.Histories.{wrote, after_call, put_over}
 use Rattle.sc_dev.specs.PartInside.{count_replaced, undone, first_of, calls_of, history_of}
 use Rattle.sc_dev.specs.Ranges.{length-put_over, put_over-before, put_over-after, put_over-stands}
 

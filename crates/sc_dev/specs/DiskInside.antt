@@ -1,7 +1,7 @@
 -- How a disk in memory counts its calls and the bytes written.
-use Rattle.std.specs.Prelude.{◌≡◌, ℕ, ◌<◌, ◌≤◌}
+use Rattle.std.specs.Prelude.{◌≡◌, ◌<◌, ◌≤◌}
 use Rattle.sc_dev.specs.declared.mem_disk.MemDisk.TheInside.{Inside}
-use Rattle.sc_dev.specs.MemDisks.{MemDiskOf, PartsFit, calls_made, all_written}
+use Rattle.sc_dev.specs.MemDisks.{MemDiskOf, calls_made, all_written}
 
 abbrev pub disk_inside : Inside → MemDiskOf
 disk_inside d = record { parts = d.parts; past = d.past; failing = d.failing; faults = d.faults }

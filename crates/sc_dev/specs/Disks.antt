@@ -1,5 +1,5 @@
 -- Disks of three parts: what reads give, and what a stop of the machine may leave. This host's own rule.
-use Rattle.std.specs.Prelude.{◌≡◌, ◌⊎◌, ℕ, ◌+◌, ◌^◌, ◌<◌, ◌≤◌, min, max, List, length, take, drop}
+use Rattle.std.specs.Prelude.{◌≡◌, ◌⊎◌, ℕ, ◌+◌, ◌^◌, ◌≤◌, min, max, List, length, take, drop}
 use Rattle.sc_dev.specs.declared.disk.Part.{Part}
 use Rattle.sc_dev.specs.declared.disk.Part.TheVariants.{Journal, SlotA, SlotB}
 use Rattle.sc_dev.specs.Causes.{Rose}

@@ -1,9 +1,9 @@
 -- Facts on disks in memory: the laws of a disk hold of each. No clause cites them.
-use Rattle.std.proofs.Common.{◌≡◌, ◌⊎◌, inl, inr, ⊎_elim, ℕ, zero, suc, ◌+◌, ◌-◌, ◌^◌, ◌<◌, ◌≤◌, min, max, List, [], ◌∷◌, length, take, drop, refl, sym, ◌∙◌, ap, subst, arith}
+use Rattle.std.proofs.Common.{◌≡◌, inl, inr, ℕ, ◌-◌, ◌^◌, ◌<◌, ◌≤◌, List, [], ◌∷◌, refl, subst, arith}
 use Rattle.std.proofs.lemmas.List.{take_min}
 use Rattle.sc_dev.specs.Disks.{DiskOf, IsTorn}
-use Rattle.sc_dev.specs.Histories.{Done, History, passed, wrote, lost, synced, put_over, bytes_after, LeavesAfter, read_bytes, MayLeave}
-use Rattle.sc_dev.specs.MemDisks.{PartsOf, MemDiskOf, PartsLeave, parts_read, parts_ago, calls_made, moment_of, MightHaveLeft}
+use Rattle.sc_dev.specs.Histories.{Done, passed, wrote, lost, synced, bytes_after, LeavesAfter}
+use Rattle.sc_dev.specs.MemDisks.{PartsOf, MemDiskOf, PartsLeave, parts_read, parts_ago, moment_of, MightHaveLeft}
 use Rattle.sc_dev.specs.Ranges.{torn-put_over}
 
 -- nothing may have been torn

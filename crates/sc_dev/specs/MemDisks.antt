@@ -1,5 +1,5 @@
 -- Disks that stand in memory. This host's own rule.
-use Rattle.std.specs.Prelude.{◌≡◌, ◌⊎◌, ℕ, ◌+◌, ◌-◌, ◌^◌, ◌==◌, ◌≤◌, min, nat_le, Bool, not, ◌&&◌, ◌||◌, if◌then◌else◌, List, [], ◌∷◌, length}
+use Rattle.std.specs.Prelude.{◌⊎◌, ℕ, ◌+◌, ◌-◌, ◌^◌, ◌==◌, ◌≤◌, min, nat_le, Bool, not, ◌&&◌, ◌||◌, if◌then◌else◌, List, [], length}
 use Rattle.std.specs.List.{list_any}
 use Rattle.sc_dev.specs.declared.disk.Part.{Part}
 use Rattle.sc_dev.specs.declared.disk.Part.TheVariants.{Journal, SlotA, SlotB}
@@ -18,11 +18,20 @@ pub record PartsOf : Type 0 where
 -- after a call that did this in one part
 abbrev pub with_call : Part → Done → PartsOf → PartsOf
 with_call Journal call p = record p {
-    journal = after_call call p.journal; slot_a = after_call passed p.slot_a; slot_b = after_call passed p.slot_b }
+  journal = after_call call p.journal;
+  slot_a = after_call passed p.slot_a;
+  slot_b = after_call passed p.slot_b;
+}
 with_call SlotA call p = record p {
-    journal = after_call passed p.journal; slot_a = after_call call p.slot_a; slot_b = after_call passed p.slot_b }
+  journal = after_call passed p.journal;
+  slot_a = after_call call p.slot_a;
+  slot_b = after_call passed p.slot_b;
+}
 with_call SlotB call p = record p {
-    journal = after_call passed p.journal; slot_a = after_call passed p.slot_a; slot_b = after_call call p.slot_b }
+  journal = after_call passed p.journal;
+  slot_a = after_call passed p.slot_a;
+  slot_b = after_call call p.slot_b;
+}
 
 abbrev pub history_of_part : Part → PartsOf → History
 history_of_part Journal p = p.journal
@@ -32,7 +41,10 @@ history_of_part SlotB p = p.slot_b
 -- what reads give
 abbrev pub parts_read : PartsOf → DiskOf
 parts_read p = record {
-    journal = read_bytes p.journal; slot_a = read_bytes p.slot_a; slot_b = read_bytes p.slot_b }
+  journal = read_bytes p.journal;
+  slot_a = read_bytes p.slot_a;
+  slot_b = read_bytes p.slot_b;
+}
 
 -- the images that a stop may leave
 pub record PartsLeave (p : PartsOf) (c : DiskOf) : Type 0 where
@@ -47,7 +59,10 @@ parts_ago k p = record p { journal = ago k p.journal; slot_a = ago k p.slot_a; s
 -- the image whose pending ranges hold the fill, repeated
 abbrev pub parts_filled : List ℕ → PartsOf → DiskOf
 parts_filled fill p = record {
-    journal = filled fill p.journal; slot_a = filled fill p.slot_a; slot_b = filled fill p.slot_b }
+  journal = filled fill p.journal;
+  slot_a = filled fill p.slot_a;
+  slot_b = filled fill p.slot_b;
+}
 
 -- how many calls there were, and how many bytes were written
 abbrev pub calls_made : PartsOf → ℕ
@@ -73,16 +88,16 @@ pub record MemDiskOf : Type 0 where
 -- a new disk with these bytes
 abbrev pub new_disk : DiskOf → Rooms → List ℕ → MemDiskOf
 new_disk d rooms failing = record {
-    parts = record {
-      journal = record { first = d.journal; calls = [] };
-      slot_a = record { first = d.slot_a; calls = [] };
-      slot_b = record { first = d.slot_b; calls = [] };
-      rooms = rooms;
-    };
-    past = 0;
-    failing = failing;
-    faults = 0;
-  }
+  parts = record {
+    journal = record { first = d.journal; calls = [] };
+    slot_a = record { first = d.slot_a; calls = [] };
+    slot_b = record { first = d.slot_b; calls = [] };
+    rooms = rooms;
+  };
+  past = 0;
+  failing = failing;
+  faults = 0;
+}
 
 -- how many calls there were, as far as 64 bits count
 abbrev pub moment_of : MemDiskOf → ℕ

@@ -32,7 +32,7 @@ calls_of bytes replaced (Passed ∷ changes) = passed ∷ calls_of bytes replace
 calls_of bytes replaced (Wrote at size before ∷ changes) =
     let rest = length replaced - count_replaced at size before in
     wrote at (take size (drop at bytes))
-        ∷ calls_of (undone at before (drop rest replaced) bytes) (take rest replaced) changes
+    ∷ calls_of (undone at before (drop rest replaced) bytes) (take rest replaced) changes
 calls_of bytes replaced (Lost at size ∷ changes) = lost at size ∷ calls_of bytes replaced changes
 calls_of bytes replaced (Synced ∷ changes) = synced ∷ calls_of bytes replaced changes
 

@@ -1,12 +1,15 @@
 -- How a disk in memory keeps its three parts: every call is one in each part.
-use Rattle.std.specs.Prelude.{◌≡◌, ℕ, ◌^◌, ◌≤◌, length}
+use Rattle.std.specs.Prelude.{◌≡◌, length}
 use Rattle.sc_dev.specs.declared.mem_parts.MemParts.TheInside.{Inside}
-use Rattle.sc_dev.specs.Histories.{furthest}
 use Rattle.sc_dev.specs.MemDisks.{PartsOf, PartsFit}
 
 abbrev pub parts_inside : Inside → PartsOf
 parts_inside p = record {
-    journal = p.journal.history; slot_a = p.slot_a.history; slot_b = p.slot_b.history; rooms = p.rooms }
+  journal = p.journal.history;
+  slot_a = p.slot_a.history;
+  slot_b = p.slot_b.history;
+  rooms = p.rooms;
+}
 
 pub record AreWhole (p : Inside) : Type 0 where
   pub journal : p.journal.rooms ≡ p.rooms

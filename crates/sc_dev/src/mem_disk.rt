@@ -76,8 +76,11 @@ impl MemDisk {
         requires journal { length contents.journal.now ≤ rooms.bytes }
         requires slot_a { length contents.slot_a.now ≤ rooms.bytes }
         requires slot_b { length contents.slot_b.now ≤ rooms.bytes }
-        ensures { IfOk result (λ d. d ≡ new_disk (record { journal = contents.entry.journal.now;
-            slot_a = contents.entry.slot_a.now; slot_b = contents.entry.slot_b.now }) rooms failing.now) }
+        ensures { IfOk result (λ d. d ≡ new_disk (record {
+          journal = contents.entry.journal.now;
+          slot_a = contents.entry.slot_a.now;
+          slot_b = contents.entry.slot_b.now;
+        }) rooms failing.now) }
     {
         Ok(MemDisk {
             parts: MemParts::new(alloc, contents, rooms)?,
@@ -152,7 +155,9 @@ impl MemDisk {
     fn fail(&mut self)
         requires { is_past self.old ≡ false }
         ensures after { self.new ≡ record self.old {
-            parts = with_call Part.Journal passed self.old.parts; faults = risen self.old.faults } }
+          parts = with_call Part.Journal passed self.old.parts;
+          faults = risen self.old.faults;
+        } }
         ensures later { self.old.faults ≤ self.new.faults }
         ensures steps { Steps self.old self.new }
     {
@@ -181,7 +186,9 @@ impl MemDisk {
         requires calls { is_past self.old ≡ false }
         requires room { has_room self.old at size ≡ true }
         ensures after { self.new ≡ record self.old {
-            parts = with_call part (lost at size) self.old.parts; faults = risen self.old.faults } }
+          parts = with_call part (lost at size) self.old.parts;
+          faults = risen self.old.faults;
+        } }
         ensures cause { Rose self.old.faults self.new.faults }
         ensures later { self.old.faults ≤ self.new.faults }
         ensures steps { Steps self.old self.new }

@@ -210,7 +210,12 @@ fn reach(bytes: &mut Vec<u8>, at: usize)
     }
 }
 
-fn fill_ranges(alloc: Global, bytes: &mut Vec<u8>, ranges: &[Range], fill: &[u8]) -> Result<(), NoMemory>
+fn fill_ranges(
+    alloc: Global,
+    bytes: &mut Vec<u8>,
+    ranges: &[Range],
+    fill: &[u8],
+) -> Result<(), NoMemory>
     requires fill { 0 < length fill.now }
     requires room { All (λ (r : Range). r.at + r.size ≤ vec_capacity bytes.old) ranges.now }
     ensures { OnOk result (bytes.new.items ≡ each (fill_range fill.now) ranges.now bytes.old.items) }

@@ -45,10 +45,11 @@ impl MemParts {
         requires slot_a { length contents.slot_a.now ≤ rooms.bytes }
         requires slot_b { length contents.slot_b.now ≤ rooms.bytes }
         ensures { IfOk result (λ p. p ≡ record {
-            journal = record { first = contents.entry.journal.now; calls = [] };
-            slot_a = record { first = contents.entry.slot_a.now; calls = [] };
-            slot_b = record { first = contents.entry.slot_b.now; calls = [] };
-            rooms = rooms }) }
+          journal = record { first = contents.entry.journal.now; calls = [] };
+          slot_a = record { first = contents.entry.slot_a.now; calls = [] };
+          slot_b = record { first = contents.entry.slot_b.now; calls = [] };
+          rooms = rooms;
+        }) }
     {
         Ok(MemParts {
             journal: MemPart::new(alloc, contents.journal, rooms)?,

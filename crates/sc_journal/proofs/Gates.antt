@@ -1,7 +1,7 @@
 -- What a write behind a gate, and one of the gate, leave of a journal's text.
-use Rattle.std.proofs.Common.{◌≡◌, ◌≢◌, ◌⊎◌, inl, inr, ℕ, ◌+◌, ◌-◌, ◌^◌, ◌<◌, ◌≤◌, min, max, All, List, [], ◌∷◌, ◌++◌, length, get_or, take, drop, flat_map, refl, sym, ◌∙◌, ap, subst, arith, append_assoc, length-append, length-take, length-drop, take-append-drop}
+use Rattle.std.proofs.Common.{◌≡◌, ◌⊎◌, inl, inr, ℕ, ◌+◌, ◌^◌, ◌≤◌, min, All, List, [], ◌∷◌, ◌++◌, length, get_or, take, drop, flat_map, refl, sym, ◌∙◌, ap, subst, arith, append_assoc, length-append, take-append-drop}
 use Rattle.std.proofs.lemmas.Bool.{cases_eq}
-use Rattle.std.proofs.lemmas.List.{append-nil, take_all, take_at, drop_at, drop_more, take-take, length-take-le, flat_map_more}
+use Rattle.std.proofs.lemmas.List.{take_at, drop_at, drop_more, flat_map_more}
 use Rattle.std.proofs.lemmas.List.Elements.{All-push, All-take}
 use Rattle.sc_frame.specs.Fields.{number_field}
 use Rattle.sc_dev.specs.Disks.{IsTorn}

@@ -1,11 +1,11 @@
 -- A text that holds bodies is read as holding them.
-use Rattle.std.proofs.Common.{◌≡◌, ◌≢◌, inl, inr, ℕ, zero, suc, ◌+◌, ◌-◌, ◌^◌, ◌<◌, ◌≤◌, ◌==◌, nat_lt, nat_le, Bool, true, false, not, ◌&&◌, ◌||◌, cond, All, Option, None, Some, Result, Ok, Err, List, [], ◌∷◌, ◌++◌, length, get_or, take, drop, flat_map, bytes_eq, refl, sym, ◌∙◌, ap, subst, arith, append_assoc, length-append}
+use Rattle.std.proofs.Common.{◌≡◌, ◌≢◌, ℕ, zero, suc, ◌+◌, ◌^◌, ◌<◌, ◌≤◌, ◌==◌, nat_lt, nat_le, Bool, true, not, ◌&&◌, ◌||◌, cond, All, Option, None, Some, Result, Ok, Err, List, [], ◌∷◌, ◌++◌, length, take, drop, flat_map, refl, sym, ◌∙◌, ap, arith, append_assoc, length-append}
 use Rattle.std.proofs.lemmas.Bool.Decides.{nat_tests}
-use Rattle.std.proofs.lemmas.List.{append-nil, take_at, drop_at, drop-drop}
+use Rattle.std.proofs.lemmas.List.{take_at, drop_at}
 use Rattle.std.proofs.lemmas.List.Elements.{All-head, All-tail}
 use Rattle.sc_frame.specs.Fields.{number_field, field_number}
 use Rattle.sc_frame.proofs.FieldLemmas.{length-number_field, field_number-of_field}
-use Rattle.sc_journal.specs.Texts.{HeadOf, mark, header, entry, front, IsBody, IsLegal, Holds, is_size, body_at, joined, with_body, entries_from, first_number, held_from, held}
+use Rattle.sc_journal.specs.Texts.{HeadOf, header, entry, IsBody, Holds, is_size, body_at, joined, with_body, entries_from, first_number, held_from, held}
 
 -- the body of an entry behind its gate
 body-there : (number : ℕ) (body rest : List ℕ) → number ≤ 2 ^ 48 → IsBody body → 0 < length rest
@@ -74,10 +74,11 @@ held-holds head bodies text h =
     let some : 0 < length tail = omega (arith, length-append (flat_map entry bodies) (h.gate ∷ h.rest)) in
     let first : first_number (header head ++ tail) ≡ Ok head.first = header-there head tail h.legal.format h.legal.some h.legal.first some in
     let behind : drop 20 (header head ++ tail) ≡ tail = drop_at (header head) tail 20 (long head) in
-    let enough : length bodies < length (header head ++ tail) = omega (arith, length-append (header head) tail, length-append (flat_map entry bodies) (h.gate ∷ h.rest), few bodies) in
-    (ap first_number whole ∙ first,
-     ap held whole ∙ ap (held_from (header head ++ tail)) first ∙ ap (entries_from (length (header head ++ tail)) head.first 20) behind
-     ∙ entries-there bodies (length (header head ++ tail)) head.first 20 h.gate h.rest enough h.legal.last h.legal.sizes h.closed)
+    let enough : length bodies < length (header head ++ tail) = omega (arith, length-append (header head) tail, length-append (flat_map entry bodies) (h.gate ∷ h.rest), few bodies) in (
+      ap first_number whole ∙ first,
+      ap held whole ∙ ap (held_from (header head ++ tail)) first ∙ ap (entries_from (length (header head ++ tail)) head.first 20) behind
+          ∙ entries-there bodies (length (header head ++ tail)) head.first 20 h.gate h.rest enough h.legal.last h.legal.sizes h.closed,
+    )
   where
     long : (head : HeadOf) → length (header head) ≡ 20
     long head = omega (arith, length-append (number_field 4 head.format) (number_field 8 head.first), length-number_field 4 head.format, length-number_field 8 head.first)

@@ -1,5 +1,5 @@
 -- What each step of an entry leaves in every image of a disk.
-use Rattle.std.proofs.Common.{◌≡◌, ◌⊎◌, inl, inr, ℕ, ◌+◌, ◌<◌, ◌≤◌, List, [], ◌∷◌, ◌++◌, length, take, drop, refl, sym, ◌∙◌, ap, subst, arith}
+use Rattle.std.proofs.Common.{◌≡◌, inl, ℕ, ◌+◌, List, [], ◌∷◌, ◌++◌, length, take, drop, sym, subst}
 use Rattle.sc_frame.specs.Fields.{number_field}
 use Rattle.sc_dev.specs.declared.disk.Part.TheVariants.{Journal}
 use Rattle.sc_dev.specs.Disks.{DiskOf, IsTorn, Torn, Follows}

@@ -1,12 +1,12 @@
 -- What a journal keeps from one call to the next.
-use Rattle.std.proofs.Common.{◌≡◌, ◌⊎◌, inl, inr, ℕ, ◌+◌, ◌-◌, ◌^◌, ◌<◌, ◌≤◌, Option, None, Some, Result, Ok, Err, List, [], ◌∷◌, ◌++◌, length, take, drop, refl, sym, ◌∙◌, ap, subst, arith, length-append}
+use Rattle.std.proofs.Common.{◌≡◌, inl, ℕ, ◌+◌, ◌-◌, ◌^◌, ◌<◌, ◌≤◌, Option, None, Some, Result, Ok, Err, List, [], ◌∷◌, ◌++◌, length, take, drop, refl, sym, ◌∙◌, ap, subst, arith, length-append}
 use Rattle.std.specs.Result.{OnErr}
 use Rattle.std.proofs.lemmas.List.{append-nil, take_at, drop_at}
 use Rattle.sc_frame.specs.Fields.{number_field}
 use Rattle.sc_frame.proofs.FieldLemmas.{length-number_field}
 use Rattle.sc_dev.specs.declared.disk.Part.TheVariants.{Journal}
 use Rattle.sc_dev.specs.Disks.{DiskOf, Torn, Follows}
-use Rattle.sc_journal.specs.Texts.{HeadOf, front, IsLegal, Holds, HoldsWith}
+use Rattle.sc_journal.specs.Texts.{HeadOf, front, Holds, HoldsWith}
 use Rattle.sc_journal.specs.Journals.{JournalOf, StandsAt, Keeps, IsWithOrWithout}
 use Rattle.sc_journal.specs.JournalInside.{buffered_body}
 use Rattle.sc_journal.specs.Stops.{LeavesOnly, Passes, TornFrom}

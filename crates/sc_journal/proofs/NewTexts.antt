@@ -1,11 +1,11 @@
 -- What a new journal's text is.
-use Rattle.std.proofs.Common.{◌≡◌, ◌∙◌, ℕ, ◌+◌, ◌<◌, ◌≤◌, min, nat_le, ◌&&◌, Bool, All, List, [], ◌∷◌, ◌++◌, length, take, drop, bytes_eq, refl, sym, ap, ap₂, subst, arith, length-take, take-append-drop}
+use Rattle.std.proofs.Common.{◌≡◌, ◌∙◌, ℕ, min, nat_le, ◌&&◌, List, [], ◌∷◌, ◌++◌, length, take, drop, bytes_eq, refl, sym, ap, ap₂, subst, arith, length-take, take-append-drop}
 use Rattle.std.proofs.lemmas.Bool.Decides.{nat_tests}
 use Rattle.std.proofs.lemmas.List.{take-take}
 use Rattle.std.proofs.lemmas.List.Elements.{All-nil}
 use Rattle.sc_frame.specs.Fields.{number_field}
 use Rattle.sc_dev.specs.Disks.{IsTorn}
-use Rattle.sc_journal.specs.Texts.{HeadOf, mark, header, front, IsBody, IsLegal, Holds, has_open_header}
+use Rattle.sc_journal.specs.Texts.{mark, front, IsBody, Holds, has_open_header}
 use Rattle.sc_journal.proofs.Gates.{written_gate}
 
 -- the first 20 bytes tell whether a header is open

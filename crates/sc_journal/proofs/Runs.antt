@@ -1,5 +1,5 @@
 -- How a run of calls goes on over the moments of a disk.
-use Rattle.std.proofs.Common.{inl, inr, ⊎_elim, ◌⊎◌, ℕ, ◌-◌, ◌^◌, ◌<◌, ◌≤◌, arith}
+use Rattle.std.proofs.Common.{inl, inr, ⊎_elim, ℕ, ◌-◌, ◌^◌, ◌<◌, arith}
 use Rattle.sc_dev.specs.Disks.{DiskOf, Elapses}
 use Rattle.sc_journal.specs.Stops.{LeavesOnly, Passes}
 

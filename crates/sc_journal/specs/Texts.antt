@@ -1,6 +1,6 @@
 -- The text of a journal. This host's own rule: a header of 20 bytes, the open gate 1 first, then for each body an open
 -- gate, its length and its bytes, then a closed gate, which is any byte but 1. What follows that has no meaning.
-use Rattle.std.specs.Prelude.{◌≡◌, ◌≢◌, ◌⊎◌, ℕ, zero, suc, ◌+◌, ◌^◌, ◌<◌, ◌≤◌, ◌==◌, nat_lt, nat_le, Bool, not, ◌&&◌, ◌||◌, if◌then◌else◌, Option, None, Some, Result, Ok, Err, List, [], ◌∷◌, ◌++◌, length, take, drop, flat_map, All, codes, bytes_eq}
+use Rattle.std.specs.Prelude.{◌≡◌, ◌≢◌, ℕ, zero, suc, ◌+◌, ◌^◌, ◌≤◌, ◌==◌, nat_lt, nat_le, Bool, not, ◌&&◌, ◌||◌, if◌then◌else◌, Option, None, Some, Result, Ok, Err, List, [], ◌∷◌, ◌++◌, length, take, drop, flat_map, All, codes, bytes_eq}
 use Rattle.sc_frame.specs.Fields.{number_field, field_number}
 
 -- what a header says besides its mark: the format, and the number of the first entry
@@ -82,7 +82,7 @@ entries_from zero number at text = Err at
 entries_from (suc steps) number at [] = Err at
 entries_from (suc steps) number at (gate ∷ rest) = if gate == 1
     then with_body (body_at number rest) at
-      (λ body. entries_from steps (number + 1) (at + 5 + length body) (drop (4 + length body) rest))
+    (λ body. entries_from steps (number + 1) (at + 5 + length body) (drop (4 + length body) rest))
     else Ok []
 
 -- the first number that the header says, or the first case of damage that applies

@@ -1,4 +1,4 @@
-ghost use Rattle.std.specs.Prelude.{◌≡◌, ◌≢◌, ◌⊎◌, ◌+◌, ◌^◌, ◌<◌, ◌≤◌, ◌↔◌, [], ◌∷◌, ◌++◌, length, false, None, Some, Ok, Err, ℕ, vec_capacity, IsTrue, IsSome, IfOk, IfErr, OnOk, OnErr, MatchResult};
+ghost use Rattle.std.specs.Prelude.{◌≡◌, ◌≢◌, ◌⊎◌, ◌+◌, ◌^◌, ◌<◌, ◌≤◌, ◌↔◌, [], ◌∷◌, ◌++◌, length, false, None, Some, Ok, Err, ℕ, vec_capacity, IsTrue, IsSome, IsOk, IfOk, IfErr, OnOk, OnErr, MatchResult};
 ghost use Rattle.sc_dev.specs.Causes.{HasCause, Rose};
 ghost use Rattle.sc_dev.specs.Disks.{DiskOf, Within};
 ghost use Rattle.sc_journal.specs.Journals.{Keeps, IsWithOrWithout, IsAsDoubted, IsFull};
@@ -65,12 +65,13 @@ impl<D: Disk> Journal<D> {
         // so where the text holds bodies, these and nothing but a fault or want of memory
         ensures whole { D.tells → (head : HeadOf) (bodies : _) → Holds head bodies (D.reads disk).journal
             → MatchResult result (λ o. (o.first ≡ head.first) × (o.bodies.items ≡ bodies))
-                (λ n. (at : ℕ) → n.fault ≢ JournalFault.Damaged at) }
+            (λ n. (at : ℕ) → n.fault ≢ JournalFault.Damaged at) }
 
         // every stop leaves them
         ensures keeps { D.tells → IfOk result (λ o.
             Keeps D.tells D.may_leave o.journal (record { format = 1; first = o.first }) o.bodies.items) }
         ensures settled { IfOk result (λ o. o.journal.doubt ≡ None) }
+        ensures next { IfOk result (λ o. o.journal.next ≡ o.first + length o.bodies.items) }
 
         // only where the disk's faults rose
         ensures disk { IfErr result (λ n. n.fault ≡ JournalFault.Disk → Rose (D.faults disk) (D.faults n.disk)) }
@@ -97,8 +98,12 @@ impl<D: Disk> Journal<D> {
         requires last { loaded.found.first + length loaded.found.bodies.items ≤ 2 ^ 48 + 1 }
         requires end { loaded.found.end < 2 ^ 40 }
         requires room { 2097157 ≤ vec_capacity loaded.buffer }
-        ensures journal { result.journal ≡ record { disk = disk; end = loaded.found.end;
-            next = loaded.found.first + length loaded.found.bodies.items; doubt = None } }
+        ensures journal { result.journal ≡ record {
+          disk = disk;
+          end = loaded.found.end;
+          next = loaded.found.first + length loaded.found.bodies.items;
+          doubt = None;
+        } }
         ensures first { result.first ≡ loaded.found.first }
         ensures bodies { result.bodies ≡ loaded.found.bodies }
     {
@@ -173,7 +178,7 @@ impl<D: Disk> Journal<D> {
             → OnErr result (Keeps D.tells D.may_leave self.new head bodies) }
         ensures any_moment { (head : HeadOf) (bodies : _) → Keeps D.tells D.may_leave self.old head bodies
             → LeavesOnly D.moment D.may_have_left self.old.disk self.new.disk
-                (IsWithOrWithout head bodies body.now) }
+            (IsWithOrWithout head bodies body.now) }
     {
         if self.is_full(body.len()) {
             return Err(AppendFault::Full);
@@ -199,7 +204,7 @@ impl<D: Disk> Journal<D> {
     /// Takes an entry back that is in doubt: at `Ok` no stop leaves it any more. It makes two device calls where
     /// one is in doubt, else none.
     pub fn settle(&mut self) -> Result<(), Failed>
-        ensures nothing { self.old.doubt ≡ None → OnOk result (self.new ≡ self.old) }
+        ensures nothing { self.old.doubt ≡ None → IsOk result × (self.new ≡ self.old) }
         ensures settled { OnOk result (self.new.doubt ≡ None) }
         ensures doubtful { OnErr result (self.new.doubt ≡ self.old.doubt) }
         ensures end { self.new.end ≡ self.old.end }
@@ -212,7 +217,7 @@ impl<D: Disk> Journal<D> {
             → Keeps D.tells D.may_leave self.new head bodies }
         ensures any_moment { (head : HeadOf) (bodies : _) → Keeps D.tells D.may_leave self.old head bodies
             → LeavesOnly D.moment D.may_have_left self.old.disk self.new.disk
-                (IsAsDoubted self.old.doubt head bodies) }
+            (IsAsDoubted self.old.doubt head bodies) }
     {
         if self.is_in_doubt {
             write_synced(&mut self.disk, self.end, &[0])?;

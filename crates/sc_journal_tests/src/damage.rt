@@ -41,11 +41,19 @@ fn a_short_text_is_damaged(rt: HostRuntime) -> Result<(), Fail> {
     let alloc = rt.alloc();
     for length in 0..21usize {
         let cut = &TICKED[..length.min(TICKED.len())];
-        assert_eq!(rt; fault(alloc, cut)?, Some(JournalFault::Damaged(0)), "cut to {length}");
+        assert_eq!(rt;
+            fault(alloc, cut)?,
+            Some(JournalFault::Damaged(0)),
+            "cut to {length}"
+        );
     }
     for length in 21..35usize {
         let cut = &TICKED[..length.min(TICKED.len())];
-        assert_eq!(rt; fault(alloc, cut)?, Some(JournalFault::Damaged(20)), "cut to {length}");
+        assert_eq!(rt;
+            fault(alloc, cut)?,
+            Some(JournalFault::Damaged(20)),
+            "cut to {length}"
+        );
     }
     Ok(())
 }

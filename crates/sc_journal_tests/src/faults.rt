@@ -10,7 +10,11 @@ fn making_a_journal_fails_at_each_call(rt: HostRuntime) -> Result<(), Fail> {
     let alloc = rt.alloc();
     for failing in 1..6u64 {
         let mut disk = new_disk(alloc, 40, &[failing])?;
-        assert_eq!(rt; create(&mut disk), Err(CreateFault::Failed), "call {failing}");
+        assert_eq!(rt;
+            create(&mut disk),
+            Err(CreateFault::Failed),
+            "call {failing}"
+        );
         assert_eq!(rt; disk.moment(), failing);
         assert_eq!(rt; create(&mut disk).is_ok(), failing != 5, "call {failing}");
     }

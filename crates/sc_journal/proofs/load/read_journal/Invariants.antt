@@ -1,4 +1,4 @@
-use Rattle.std.proofs.Common.{◌≡◌, ◌+◌, ◌-◌, ◌^◌, ◌≤◌, length, take}
+use Rattle.std.proofs.Common.{◌≡◌, ◌-◌, ◌^◌, ◌≤◌, length, take}
 use Rattle.sc_dev.specs.Disks.{Within}
 use Rattle.sc_journal.specs.Stops.{Passes}
 use Rattle.sc_journal.proofs.load.read_journal.Given as goal

@@ -1,5 +1,4 @@
 use Rattle.std.proofs.Common.{subst, sym}
-use Rattle.sc_dev.specs.Disks.{DiskOf}
 use Rattle.sc_journal.specs.Texts.{Holds}
 use Rattle.sc_journal.proofs.NewTexts.{made-holds}
 use Rattle.sc_journal.proofs.making.create.Goals as goal

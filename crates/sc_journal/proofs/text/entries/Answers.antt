@@ -1,4 +1,4 @@
-use Rattle.std.proofs.Common.{◌≡◌, ◌∙◌, ℕ, ◌+◌, ◌-◌, ◌<◌, ◌≤◌, Option, None, Some, Result, Ok, Err, List, [], ◌∷◌, ◌++◌, length, get_or, take, drop, flat_map, All, refl, sym, ap, subst, arith, length-append, length-drop, length-take}
+use Rattle.std.proofs.Common.{◌≡◌, ◌∙◌, ℕ, ◌+◌, ◌-◌, Err, List, [], ◌∷◌, ◌++◌, length, get_or, drop, flat_map, All, refl, sym, ap, subst, arith, length-append, length-drop, length-take}
 use Rattle.std.proofs.lemmas.List.Elements.{All-push}
 use Rattle.sc_journal.specs.Texts.{entry, IsBody, entries_from}
 use Rattle.sc_journal.proofs.Reading.{prefixed, read-more, read-damaged, read-closed, length-entries, bytes-more, bytes-all}

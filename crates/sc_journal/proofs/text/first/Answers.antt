@@ -1,4 +1,4 @@
-use Rattle.std.proofs.Common.{◌≡◌, ◌∙◌, ℕ, ◌+◌, ◌≤◌, List, take, drop, sym, ap, arith, length-drop}
+use Rattle.std.proofs.Common.{◌≡◌, ◌∙◌, ℕ, ◌+◌, List, drop, sym, ap, arith, length-drop}
 use Rattle.std.proofs.lemmas.List.{take_rest, get_or-drop}
 use Rattle.byteorder.specs.Endian.{big_number}
 use Rattle.sc_frame.specs.Fields.{number_field, field_number}

@@ -1,8 +1,6 @@
 use Rattle.std.proofs.Common.{refl}
-use Rattle.sc_dev.specs.declared.disk.Part.TheVariants.{Journal}
-use Rattle.sc_dev.specs.Histories.{passed, synced, lost, wrote}
 use Rattle.sc_dev.specs.DiskInside.{disk_inside}
-use Rattle.sc_dev.proofs.DiskSteps.{made-steps, past-steps}
+use Rattle.sc_dev.proofs.DiskSteps.{past-steps}
 use Rattle.sc_dev.proofs.mem_disk.MemDisk.count_past.Goals as goal
 
 pub returns-clause-steps : goal.returns-clause-steps

@@ -1,5 +1,5 @@
-use Rattle.std.proofs.Common.{ap, subst, sym}
-use Rattle.sc_dev.specs.Disks.{DiskOf, Within}
+use Rattle.std.proofs.Common.{subst, sym}
+use Rattle.sc_dev.specs.Disks.{Within}
 use Rattle.sc_dev.specs.MemDisks.{MemDiskOf, PartsLeave}
 use Rattle.sc_dev.proofs.StepLemmas.{synced-leaves}
 use Rattle.sc_dev.proofs.mem_disk.MemDiskDisk.sync.Goals as goal

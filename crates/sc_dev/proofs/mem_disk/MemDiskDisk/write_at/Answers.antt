@@ -1,5 +1,5 @@
-use Rattle.std.proofs.Common.{ap, subst, sym, length}
-use Rattle.sc_dev.specs.Disks.{DiskOf, Follows, Torn}
+use Rattle.std.proofs.Common.{subst, sym, length}
+use Rattle.sc_dev.specs.Disks.{Follows, Torn}
 use Rattle.sc_dev.specs.MemDisks.{MemDiskOf, PartsLeave, parts_read}
 use Rattle.sc_dev.proofs.StepLemmas.{wrote-leaves, wrote-read, lost-leaves}
 use Rattle.sc_dev.proofs.mem_disk.MemDiskDisk.write_at.Goals as goal

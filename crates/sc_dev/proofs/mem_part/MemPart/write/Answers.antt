@@ -1,11 +1,11 @@
-use Rattle.std.proofs.Common.{◌≡◌, ◌∙◌, ℕ, ◌+◌, ◌≤◌, List, [], ◌∷◌, ◌++◌, length, take, drop, reverse, All, rules, arith, length-append, refl, ap, ap₂, sym, subst, vec_len}
+use Rattle.std.proofs.Common.{◌≡◌, ◌∙◌, ℕ, ◌+◌, ◌≤◌, List, [], ◌∷◌, ◌++◌, length, take, drop, reverse, rules, arith, length-append, refl, ap, ap₂, sym, subst, vec_len}
 use Rattle.std.proofs.lemmas.List.{reverse-append}
 use Rattle.std.proofs.lemmas.List.Elements.{All-append}
 use Rattle.sc_dev.specs.declared.mem_part.Change.{Change}
 use Rattle.sc_dev.specs.declared.mem_part.Range.{Range}
 use Rattle.sc_dev.specs.declared.mem_part.Change.TheVariants.{Wrote}
 use Rattle.sc_dev.specs.Histories.{History, wrote, after_call, put_over, read_bytes, pending, bytes_written, furthest}
-use Rattle.sc_dev.specs.PartInside.{IsSound, history_of}
+use Rattle.sc_dev.specs.PartInside.{history_of}
 use Rattle.sc_dev.specs.Parts.{PartOf}
 use Rattle.sc_dev.specs.Ranges.{length-put_over}
 use Rattle.sc_dev.proofs.Undone.{history-written}

@@ -1,11 +1,10 @@
-use Rattle.std.proofs.Common.{◌≡◌, ◌∙◌, ◌⊎◌, inl, inr, ℕ, ◌+◌, ◌≤◌, ◌^◌, Bool, true, false, Option, None, Some, List, ◌∷◌, [], ◌++◌, length, refl, sym, ap, subst, arith, rules, length-append}
+use Rattle.std.proofs.Common.{◌≡◌, ◌∙◌, ◌⊎◌, inr, ℕ, ◌+◌, ◌≤◌, ◌^◌, Bool, true, false, None, Some, List, ◌∷◌, [], ◌++◌, length, refl, sym, ap, subst, arith, length-append}
 use Rattle.sc_frame.proofs.FieldLemmas.{length-number_field}
 use Rattle.sc_frame.specs.Fields.{number_field}
-use Rattle.sc_journal.specs.Texts.{HeadOf, HoldsWith}
 use Rattle.sc_journal.specs.Journals.{JournalOf, Keeps, IsWithOrWithout}
 use Rattle.sc_journal.specs.JournalInside.{journal_inside, doubted, buffered_body}
 use Rattle.sc_journal.specs.Stops.{LeavesOnly}
-use Rattle.sc_journal.proofs.Kept.{on-err, buffered, settled-images, doubted-images, kept-behind, staged, kept-gate, kept-open, moments-behind, moments-gate}
+use Rattle.sc_journal.proofs.Kept.{on-err, buffered, kept-behind, staged, kept-gate, kept-open, moments-behind, moments-gate}
 use Rattle.sc_journal.proofs.journal.Journal.append.Goals as goal
 
 pair : {A B C : Type 0} → A → B → C → A × (B × C)
@@ -22,8 +21,8 @@ write_synced-requires-clause-range g c κs within =
     let same_next : c.self.inside.next ≡ c.args.self.now.next = ap (λ (x : JournalOf g.row.D.Denot). x.next) c.self.view_is in
     let room = c.is_full.ensures.room c.if-is_full.false in
     let long : length c.deref.result.now ≡ 4 + (length c.args.body.now + 1) =
-        ap length (c.deref.ensures.value ∙ c.fill.ensures.items) ∙ length-append (number_field 4 (length c.args.body.now)) (c.args.body.now ++ 0 ∷ [])
-        ∙ (λ i. length-number_field 4 (length c.args.body.now) i + length-append c.args.body.now (0 ∷ []) i) in
+    ap length (c.deref.ensures.value ∙ c.fill.ensures.items) ∙ length-append (number_field 4 (length c.args.body.now)) (c.args.body.now ++ 0 ∷ [])
+    ∙ (λ i. length-number_field 4 (length c.args.body.now) i + length-append c.args.body.now (0 ∷ []) i) in
     omega (arith, same_end, room.0, long)
 
 pub returns-in_err-write_synced-clause-kept : goal.returns-in_err-write_synced-clause-kept
@@ -77,7 +76,7 @@ returns-in_err-write_synced-2-clause-kept g c = λ head bodies keeps.
     let form = c.deref.ensures.value ∙ c.fill.ensures.items in
     let first = c.in_ok-write_synced.ensures in
     let mid = staged T R L head bodies j kj c.write_synced.new.disk c.args.body.now c.deref.result.now (laws.stands j.disk) none c.requires.some c.requires.most number
-        form (first.outside kj.told) (first.written kj.told) (first.durable kj.told) in
+    form (first.outside kj.told) (first.written kj.told) (first.durable kj.told) in
     on-err _ _ (kept-gate T R L head bodies j kj _ c.write_synced.new.disk c.args.body.now mid (ap Some (buffered _ _ c.fill.ensures.items)) refl refl c.write_synced-2.ensures.images)
 
 pub returns-in_err-write_synced-2-clause-any_moment :
@@ -97,7 +96,7 @@ returns-in_err-write_synced-2-clause-any_moment g c = λ head bodies keeps.
     let form = c.deref.ensures.value ∙ c.fill.ensures.items in
     let first = c.in_ok-write_synced.ensures in
     let mid = staged T R L head bodies j kj c.write_synced.new.disk c.args.body.now c.deref.result.now (laws.stands j.disk) none c.requires.some c.requires.most number
-        form (first.outside kj.told) (first.written kj.told) (first.durable kj.told) in
+    form (first.outside kj.told) (first.written kj.told) (first.durable kj.told) in
     let M = g.D.Disk.moment in
     let S = g.D.Disk.may_have_left in
     let start = moments-behind T R L M S laws.only_now head bodies j kj c.args.body.now c.write_synced.new.disk (length c.deref.result.now) none c.write_synced.ensures.passes in
@@ -120,7 +119,7 @@ returns-clause-acknowledged g c = λ head bodies keeps.
     let form = c.deref.ensures.value ∙ c.fill.ensures.items in
     let first = c.in_ok-write_synced.ensures in
     let mid = staged T R L head bodies j kj c.write_synced.new.disk c.args.body.now c.deref.result.now (laws.stands j.disk) none c.requires.some c.requires.most number
-        form (first.outside kj.told) (first.written kj.told) (first.durable kj.told) in
+    form (first.outside kj.told) (first.written kj.told) (first.durable kj.told) in
     let second = c.in_ok-write_synced-2.ensures in
     kept-open T R L head bodies j kj _ c.write_synced.new.disk c.args.body.now mid (laws.stands c.write_synced.new.disk) refl refl refl
     (second.outside kj.told) (second.written kj.told) (second.durable kj.told)
@@ -141,7 +140,7 @@ returns-clause-any_moment g c = λ head bodies keeps.
     let form = c.deref.ensures.value ∙ c.fill.ensures.items in
     let first = c.in_ok-write_synced.ensures in
     let mid = staged T R L head bodies j kj c.write_synced.new.disk c.args.body.now c.deref.result.now (laws.stands j.disk) none c.requires.some c.requires.most number
-        form (first.outside kj.told) (first.written kj.told) (first.durable kj.told) in
+    form (first.outside kj.told) (first.written kj.told) (first.durable kj.told) in
     let M = g.D.Disk.moment in
     let S = g.D.Disk.may_have_left in
     let start = moments-behind T R L M S laws.only_now head bodies j kj c.args.body.now c.write_synced.new.disk (length c.deref.result.now) none c.write_synced.ensures.passes in

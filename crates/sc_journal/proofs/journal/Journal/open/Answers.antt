@@ -1,5 +1,4 @@
 use Rattle.std.proofs.Common.{◌≡◌, ◌∙◌, ℕ, Global, Vec, Result, Ok, Err, List, sym, ap}
-use Rattle.sc_journal.specs.Texts.{HeadOf, Holds, first_number, held}
 use Rattle.sc_journal.proofs.Held.{held-holds}
 use Rattle.sc_journal.proofs.journal.Journal.open.Goals as goal
 
