@@ -1,5 +1,5 @@
 -- The last path before another that leads on to it.
-use Rattle.std.proofs.Common.{◌≡◌, ◌⊎◌, inl, inr, ℕ, ◌+◌, ◌-◌, ◌<◌, ◌≤◌, ◌&&◌, zero, suc, Bool, true, false, Option, Some, None, List, [], ◌∷◌, ◌++◌, length, take, get_or, length-append, length-take, reverse, cond, unwrap_or, append-nil, refl, arith, ap, ap₂, sym, ◌∙◌}
+use Rattle.std.proofs.Common.{◌≡◌, inl, inr, ℕ, ◌+◌, ◌<◌, ◌≤◌, Bool, true, false, Option, Some, None, List, [], ◌∷◌, ◌++◌, length, take, get_or, length-append, length-take, reverse, cond, unwrap_or, refl, arith, ap, sym, ◌∙◌}
 use Rattle.std.proofs.lemmas.Bool.{cases_lt, cases_order}
 use Rattle.std.proofs.Math.ListN.{get_or-append}
 use Rattle.std.proofs.Math.Seq.{get_or-append_seam}
@@ -8,9 +8,9 @@ use Rattle.sc_law.specs.Nodes.{Path, leads_on}
 use Rattle.sc_law.specs.Tree.{numbers_where}
 use Rattle.sc_law.specs.Configurations.{first_or}
 use Rattle.sc_tables.specs.Nearest.{HasParents, IsNearest, IsPlaced, NoneLeads, path_at}
-use Rattle.sc_tables.specs.Preorder.{IsPreorder, comes_before}
+use Rattle.sc_tables.specs.Preorder.{IsPreorder}
 use Rattle.sc_tables.proofs.Leads.{leads-between, leads-not-back, leads-not-same, leads-on}
-use Rattle.sc_tables.proofs.Numbers.{numbers-more, numbers-none, numbers-same, numbers-until, FailsAll}
+use Rattle.sc_tables.proofs.Numbers.{numbers-more, numbers-none, numbers-same, numbers-until}
 
 -- what is still to be looked at: the paths up to this number
 abbrev pub IsNext : List Path → ℕ → Path → Option ℕ → Type 0

@@ -1,5 +1,5 @@
 -- The rows of what stands below a path.
-use Rattle.std.proofs.Common.{◌≡◌, ℕ, ◌+◌, ◌<◌, ◌≤◌, ◌&&◌, inl, inr, not, Bool, true, false, cond, filter, List, [], ◌∷◌, ◌++◌, length, length-take, take, get_or, map, refl, arith, ap, ap₂, sym, ◌∙◌}
+use Rattle.std.proofs.Common.{◌≡◌, ℕ, ◌+◌, ◌<◌, ◌≤◌, ◌&&◌, inl, inr, not, Bool, true, false, cond, filter, List, [], length, length-take, take, get_or, arith, ap, ap₂, sym, ◌∙◌}
 use Rattle.std.proofs.lemmas.Bool.{cases_order}
 use Rattle.std.proofs.lemmas.List.{get_or-take}
 use Rattle.sc_base.specs.Ascending.{with_number}
@@ -11,7 +11,7 @@ use Rattle.sc_tables.specs.Blocks.{IsBlock, is_child_path, is_history_in}
 use Rattle.sc_tables.specs.Built.{below_of, children_of}
 use Rattle.sc_tables.specs.Nearest.{path_at}
 use Rattle.sc_tables.proofs.Blocks.{child-leads}
-use Rattle.sc_tables.proofs.Numbers.{FailsAll, numbers-none, numbers-until, kept-add, kept-skip}
+use Rattle.sc_tables.proofs.Numbers.{numbers-none, numbers-until, kept-add, kept-skip}
 
 pub row-ends : (r : RowOf) (width : ℕ) (members : List ℕ) → r.width ≡ width → r.members ≡ members → r ≡ record { width = width; members = members }
 row-ends r width members e f = ap₂ (λ (w : ℕ) (ms : List ℕ). record { width = w; members = ms }) e f

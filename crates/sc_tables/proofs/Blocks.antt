@@ -1,11 +1,11 @@
 -- What stands below a path stands together.
-use Rattle.std.proofs.Common.{◌≡◌, ◌⊎◌, inl, inr, ℕ, ◌+◌, ◌-◌, ◌<◌, ◌≤◌, ◌&&◌, not, zero, suc, Bool, true, false, Option, Some, None, List, [], ◌∷◌, length, get_or, refl, arith, ap, ap₂, sym, ◌∙◌}
+use Rattle.std.proofs.Common.{◌≡◌, inl, inr, ℕ, ◌+◌, ◌<◌, ◌≤◌, ◌&&◌, not, Bool, true, false, List, [], ◌∷◌, length, refl, arith, ap, ◌∙◌}
 use Rattle.std.proofs.lemmas.Bool.{cases_order}
 use Rattle.std.proofs.lemmas.Slice.Eq.{bytes_eq-Decides}
 use Rattle.sc_law.specs.Nodes.{Path, leads_on, parent, is_root, is_same}
 use Rattle.sc_tables.specs.Blocks.{IsBlock, is_child_path}
 use Rattle.sc_tables.specs.Nearest.{path_at}
-use Rattle.sc_tables.specs.Preorder.{IsPreorder, comes_before}
+use Rattle.sc_tables.specs.Preorder.{IsPreorder}
 use Rattle.sc_tables.proofs.Leads.{leads-between, leads-from, leads-not-back, leads-not-same, parent-leads}
 
 not-true : (v : Bool) → (v ≡ true → ⊥) → v ≡ false

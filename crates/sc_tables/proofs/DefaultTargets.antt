@@ -1,5 +1,5 @@
 -- The default targets of an element with child states.
-use Rattle.std.proofs.Common.{◌≡◌, ℕ, ◌||◌, Bool, true, false, cond, Option, Some, None, Result, Ok, Err, IfOk, List, [], ◌∷◌, find, take, unwrap_or, refl, ap, sym, ◌∙◌}
+use Rattle.std.proofs.Common.{◌≡◌, ℕ, ◌||◌, Bool, true, false, cond, Some, None, Result, Ok, Err, IfOk, List, [], ◌∷◌, find, take, unwrap_or, refl, ap, sym, ◌∙◌}
 use Rattle.std.specs.List.{list_any}
 use Rattle.sc_types.specs.Attributes.{has}
 use Rattle.sc_types.specs.declared.attribute.Attribute.TheVariants as attribute
@@ -8,7 +8,7 @@ use Rattle.sc_types.specs.declared.chart.Node.{Node}
 use Rattle.sc_types.specs.declared.chart.Tag.TheVariants as tag
 use Rattle.sc_law.specs.Nodes.{is_tag, kids, tag_of}
 use Rattle.sc_law.specs.Legality.{default_ids}
-use Rattle.sc_law.specs.Configurations.{children, has_initial, initial_ids, named, state_defaults}
+use Rattle.sc_law.specs.Configurations.{children, initial_ids, named, state_defaults}
 
 abbrev pub is_initial : Node → Bool
 is_initial kid = is_tag tag.Initial (tag_of kid)

@@ -1,9 +1,9 @@
 -- What leads on from a path, among paths in document order.
-use Rattle.std.proofs.Common.{◌≡◌, ◌⊎◌, inl, inr, ℕ, ◌+◌, ◌-◌, ◌<◌, ◌≤◌, ◌&&◌, nat_eq, nat_lt, zero, suc, Bool, true, false, List, [], ◌∷◌, length, length-take, take, get_or, refl, arith, ap, ap₂, sym, ◌∙◌}
+use Rattle.std.proofs.Common.{◌≡◌, ℕ, ◌-◌, ◌<◌, ◌&&◌, nat_eq, nat_lt, zero, suc, Bool, true, false, [], ◌∷◌, length, length-take, take, refl, arith, ap, ap₂, sym, ◌∙◌}
 use Rattle.std.proofs.lemmas.Bool.Decides.{nat_tests}
 use Rattle.sc_law.specs.Nodes.{Path, leads_on, parent}
-use Rattle.sc_tables.specs.Preorder.{IsPreorder, comes_before}
-use Rattle.sc_tables.proofs.Order.{begins, begins_is, begins-same, begins-trans, between, behind, longer}
+use Rattle.sc_tables.specs.Preorder.{comes_before}
+use Rattle.sc_tables.proofs.Order.{begins, begins_is, begins-trans, between, behind, longer}
 
 pub leads-begins : (a b : Path) → leads_on a b ≡ (nat_lt (length a) (length b) && begins a b)
 leads-begins a b = ap (λ v. nat_lt (length a) (length b) && v) (begins_is a b)

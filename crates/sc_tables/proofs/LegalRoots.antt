@@ -8,7 +8,7 @@ use Rattle.sc_types.specs.declared.chart.ChartFault.{ChartFault}
 use Rattle.sc_types.specs.declared.chart.Node.{Node, Node'}
 use Rattle.sc_types.specs.declared.chart.Tag.{Tag}
 use Rattle.sc_types.specs.declared.chart.Tag.TheVariants as tag
-use Rattle.sc_law.specs.Nodes.{Path, elements, elements_from, is_tag, tag_of}
+use Rattle.sc_law.specs.Nodes.{Path, elements_from, is_tag, tag_of}
 use Rattle.sc_law.specs.Legality.{fault_at, first_fault, is_bad_child, legal_fault, number_at, tests}
 
 -- each fails the test

@@ -1,20 +1,16 @@
 -- What the tables hold, in the words of the chart's definitions.
-use Rattle.std.proofs.Common.{◌≡◌, ℕ, ◌+◌, ◌<◌, ◌≤◌, Bool, true, false, not, cond, Option, Some, None, All, List, [], ◌∷◌, ◌++◌, length, take, drop, filter, map, get_or, reverse, slice_get, unwrap_or, position, refl, arith, ap, ap₂, sym, ◌∙◌}
-use Rattle.std.specs.List.{range_with_len}
+use Rattle.std.proofs.Common.{◌≡◌, ℕ, ◌<◌, true, false, not, Option, None, List, [], ◌∷◌, length, filter, get_or, reverse, unwrap_or, arith, ap, sym, ◌∙◌}
 use Rattle.std.proofs.lemmas.List.Elements.{All-get_or, filter_passes}
 use Rattle.std.proofs.lemmas.Option.{unwrap_or-slice_get}
 use Rattle.sc_types.specs.Elements.{is_numbered}
 use Rattle.sc_types.specs.declared.chart.Chart.{Chart}
 use Rattle.sc_types.specs.declared.state_kind.StateKind.{StateKind}
-use Rattle.sc_types.specs.declared.state_kind.StateKind.TheVariants.{Atomic}
 use Rattle.sc_law.specs.Nodes.{Path, element, elements, is_same, leads_on, parent, tag_of}
 use Rattle.sc_law.specs.Tree.{numbers_where, path_of, root, state_count, state_paths}
-use Rattle.sc_law.specs.Kinds.{is_history_kind, kind_of}
 use Rattle.sc_law.specs.Configurations.{children, first_or, parent_of}
 use Rattle.sc_law.specs.Transitions.{path_of_transition, source, transition_paths, transitions_of}
-use Rattle.sc_bits.specs.Rows.{RowOf}
 use Rattle.sc_tables.specs.Blocks.{AreBelowRoot, is_child_path, is_history_in}
-use Rattle.sc_tables.specs.Built.{AreSources, AreStates, AreTransitions, HasKinds, HasOwn, IsSource, below_of, children_of}
+use Rattle.sc_tables.specs.Built.{AreSources, AreStates, AreTransitions, HasKinds, HasOwn, below_of, children_of}
 use Rattle.sc_tables.specs.Rows.{below, row_of}
 use Rattle.sc_tables.specs.Nearest.{path_at}
 use Rattle.sc_tables.specs.declared.states.States.{States}

@@ -1,9 +1,8 @@
 -- The numbers of the paths that pass a test.
-use Rattle.std.proofs.Common.{◌≡◌, ℕ, ◌+◌, ◌<◌, ◌≤◌, ◌==◌, ◌&&◌, nat_lt, not, zero, suc, Bool, true, false, cond, filter, All, List, [], ◌∷◌, ◌++◌, length, take, drop, get_or, reverse, append_assoc, refl, arith, ap, ap₂, sym, ◌∙◌, ◌-◌, length-take, length-drop, append-nil}
+use Rattle.std.proofs.Common.{◌≡◌, ℕ, ◌+◌, ◌<◌, ◌≤◌, ◌==◌, ◌&&◌, nat_lt, suc, Bool, true, false, cond, filter, List, [], ◌∷◌, ◌++◌, length, take, drop, get_or, refl, arith, ap, ap₂, sym, ◌∙◌, ◌-◌, length-take, length-drop, append-nil}
 use Rattle.std.proofs.lemmas.Bool.Decides.{nat_tests}
 use Rattle.std.proofs.lemmas.List.{take_more, take-append-drop, get_or-drop}
 use Rattle.std.proofs.lemmas.List.Elements.{filter-append}
-use Rattle.std.proofs.Math.ListN.{drop_of_length-le}
 use Rattle.sc_base.specs.Ascending.{with_number}
 use Rattle.sc_law.specs.Tree.{numbers_where}
 

@@ -1,5 +1,5 @@
 -- Where an element that is no state stands among the states.
-use Rattle.std.proofs.Common.{◌≡◌, ℕ, ◌+◌, ◌-◌, ◌<◌, ◌≤◌, ◌&&◌, not, Bool, true, false, cond, rules, All, List, [], ◌∷◌, ◌++◌, length, length-append, length-take, length-drop, take, drop, filter, get_or, refl, arith, ap, ap₂, sym, ◌∙◌}
+use Rattle.std.proofs.Common.{◌≡◌, ℕ, ◌+◌, ◌-◌, ◌<◌, ◌≤◌, ◌&&◌, not, Bool, true, false, cond, rules, All, List, [], ◌∷◌, ◌++◌, length, length-append, length-take, length-drop, take, drop, filter, get_or, refl, arith, ap, sym, ◌∙◌}
 use Rattle.std.proofs.Math.ListN.{get_or-append}
 use Rattle.std.proofs.lemmas.List.{drop_more, get_or-append_right, get_or-drop, get_or-take, take-append-drop}
 use Rattle.std.proofs.lemmas.List.Elements.{All-filter, All-from_get_or, All-get_or, filter-append}

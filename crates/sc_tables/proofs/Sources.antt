@@ -1,5 +1,5 @@
 -- The state that a transition stands in.
-use Rattle.std.proofs.Common.{◌≡◌, ◌⊎◌, inl, inr, ℕ, ◌+◌, ◌-◌, ◌<◌, ◌≤◌, ◌==◌, ◌&&◌, not, zero, suc, Bool, true, false, cond, Option, Some, None, IfSome, All, List, [], ◌∷◌, ◌++◌, length, position, get_or, unwrap_or, refl, arith, ap, ap₂, sym, ◌∙◌}
+use Rattle.std.proofs.Common.{◌≡◌, inl, inr, ℕ, ◌+◌, ◌<◌, ◌≤◌, ◌==◌, zero, suc, Bool, true, false, cond, Option, Some, None, All, List, [], ◌∷◌, ◌++◌, length, position, get_or, refl, arith, ap, ap₂, sym, ◌∙◌}
 use Rattle.std.proofs.lemmas.Bool.{cases_lt, cases_order}
 use Rattle.std.proofs.lemmas.Bool.Decides.{nat_tests}
 use Rattle.std.proofs.lemmas.Slice.Eq.{bytes_eq-Decides}
@@ -9,8 +9,7 @@ use Rattle.std.specs.List.{position_from}
 use Rattle.sc_law.specs.Nodes.{Path, leads_on, parent, is_same}
 use Rattle.sc_law.specs.Tree.{numbers_where}
 use Rattle.sc_tables.specs.Built.{AreSources, IsSource, IsWithin, StandsBehind, is_number, places_of}
-use Rattle.sc_tables.specs.Nearest.{IsNearest, NoneLeads, path_at}
-use Rattle.sc_tables.specs.Preorder.{IsPreorder, comes_before}
+use Rattle.sc_tables.specs.Nearest.{IsNearest, path_at}
 use Rattle.sc_tables.proofs.Leads.{leads-begin, leads-shorter, parent-begins, parent-leads, parent-length}
 use Rattle.sc_tables.proofs.Order.{begins, begins-fork, begins-same, behind}
 

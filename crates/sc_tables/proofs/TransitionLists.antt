@@ -1,11 +1,11 @@
 -- The lists of the transitions of states.
-use Rattle.std.proofs.Common.{◌≡◌, ℕ, ◌+◌, ◌<◌, ◌≤◌, ◌==◌, inl, inr, zero, suc, Bool, true, false, cond, Option, Some, None, Result, Ok, Err, OnOk, All, List, [], ◌∷◌, ◌++◌, length, length-append, length-take, take, append-nil, append_assoc, get_or, ◌≢◌, refl, arith, ap, ap₂, sym, ◌∙◌}
-use Rattle.std.proofs.lemmas.Bool.{cases_lt, cases_order}
+use Rattle.std.proofs.Common.{◌≡◌, ℕ, ◌+◌, ◌<◌, ◌==◌, inl, inr, zero, suc, Bool, true, false, cond, Option, Some, None, Result, Ok, Err, OnOk, List, [], ◌∷◌, ◌++◌, length, length-append, length-take, take, append-nil, get_or, ◌≢◌, refl, arith, ap, sym, ◌∙◌}
+use Rattle.std.proofs.lemmas.Bool.{cases_order}
 use Rattle.std.proofs.lemmas.Bool.Decides.{nat_tests}
 use Rattle.std.proofs.lemmas.List.{take_more, length-set, get_or-set_other}
 use Rattle.std.proofs.lemmas.Grind.{get_or-set_at}
 use Rattle.std.proofs.Math.ListN.{set}
-use Rattle.sc_tables.specs.Built.{HasOwn, IsAddedTo, IsWithin, is_number, places_of}
+use Rattle.sc_tables.specs.Built.{HasOwn, IsAddedTo, is_number, places_of}
 
 pub record AreEmpty (n : ℕ) (lists : List (List ℕ)) : Type 0 where
   pub size : length lists ≡ n

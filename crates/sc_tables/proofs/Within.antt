@@ -1,11 +1,10 @@
 -- Which numbers are those of states.
-use Rattle.std.proofs.Common.{◌≡◌, ℕ, ◌+◌, ◌<◌, ◌≤◌, ◌==◌, ◌&&◌, ◌||◌, inl, inr, zero, suc, Bool, true, false, not, cond, Option, Some, None, IfSome, All, List, [], ◌∷◌, ◌++◌, length, filter, find, filter_map, get_or, position, take, unwrap_or, reverse, refl, arith, ap, ap₂, sym, ◌∙◌}
-use Rattle.std.proofs.lemmas.Bool.{cases_order}
+use Rattle.std.proofs.Common.{◌≡◌, ℕ, ◌+◌, ◌<◌, ◌==◌, ◌||◌, zero, suc, Bool, true, false, not, cond, Option, Some, None, All, List, [], ◌∷◌, length, get_or, take, unwrap_or, reverse, refl, arith, ap, sym, ◌∙◌}
 use Rattle.std.proofs.lemmas.Bool.Decides.{nat_tests}
 use Rattle.std.proofs.lemmas.List.{get_or_past, reverse-append}
 use Rattle.std.proofs.lemmas.List.Elements.{All-cons, All-nil}
 use Rattle.std.proofs.lemmas.List.Quantifiers.{position-Some}
-use Rattle.std.specs.List.{cons_option, list_any}
+use Rattle.std.specs.List.{cons_option}
 use Rattle.std.specs.Option.{option_map_or}
 use Rattle.sc_base.specs.Ascending.{contains}
 use Rattle.sc_types.specs.declared.chart.Chart.{Chart}

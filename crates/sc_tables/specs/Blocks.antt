@@ -1,6 +1,6 @@
 -- What stands below a path: in a list of paths in document order these come next to one another. Only contracts of
 -- private functions cite this.
-use Rattle.std.specs.Prelude.{◌≡◌, ℕ, ◌<◌, ◌≤◌, Bool, false, true, not, ◌&&◌, List, length, slice_index_or}
+use Rattle.std.specs.Prelude.{◌≡◌, ℕ, ◌<◌, ◌≤◌, Bool, false, not, ◌&&◌, List, length, slice_index_or}
 use Rattle.sc_types.specs.declared.state_kind.StateKind.{StateKind}
 use Rattle.sc_types.specs.declared.state_kind.StateKind.TheVariants.{Atomic}
 use Rattle.sc_law.specs.Nodes.{Path, leads_on, is_root, is_same, parent}

@@ -1,7 +1,6 @@
 -- What the tables hold of a chart. Only contracts of private functions cite this, and what the tables keep.
-use Rattle.std.specs.Prelude.{◌≡◌, ℕ, ◌+◌, ◌^◌, ◌<◌, ◌≤◌, ◌==◌, Bool, false, true, not, if◌then◌else◌, All, IfSome, Option, Some, None, List, [], ◌∷◌, ◌++◌, length, map, filter, slice_index_or}
-use Rattle.std.specs.List.{range_with_len, starts_with}
-use Rattle.std.specs.Prelude.{nat_eq}
+use Rattle.std.specs.Prelude.{◌≡◌, ℕ, ◌+◌, ◌^◌, ◌<◌, ◌≤◌, ◌==◌, Bool, false, true, not, if◌then◌else◌, IfSome, Option, Some, None, List, [], ◌∷◌, ◌++◌, length, map, filter, slice_index_or}
+use Rattle.std.specs.List.{range_with_len}
 use Rattle.sc_types.specs.Attributes.{words_at}
 use Rattle.sc_types.specs.declared.attribute.Attribute.TheVariants as attribute
 use Rattle.sc_types.specs.declared.chart.Chart.{Chart}
@@ -11,7 +10,7 @@ use Rattle.sc_bits.specs.Rows.{RowOf}
 use Rattle.sc_law.specs.Nodes.{Path, element, is_same, leads_on, parent}
 use Rattle.sc_law.specs.Tree.{numbers_where, state_count, state_paths}
 use Rattle.sc_law.specs.Kinds.{kind_of}
-use Rattle.sc_law.specs.Configurations.{children, defaults, named}
+use Rattle.sc_law.specs.Configurations.{children, named}
 use Rattle.sc_law.specs.Transitions.{transition_paths, transitions_of}
 use Rattle.sc_tables.specs.Blocks.{is_child_path, is_history_in}
 use Rattle.sc_tables.specs.Nearest.{HasParents, path_at}

@@ -1,11 +1,9 @@
 -- The rows of a chart's states: numbers below the count of the states and histories. This host's own rule.
-use Rattle.std.specs.Prelude.{ℕ, List, map}
-use Rattle.std.specs.List.{range_with_len}
+use Rattle.std.specs.Prelude.{ℕ, List}
 use Rattle.sc_types.specs.declared.chart.Chart.{Chart}
 use Rattle.sc_bits.specs.Rows.{RowOf}
 use Rattle.sc_law.specs.Nodes.{leads_on}
 use Rattle.sc_law.specs.Tree.{numbers_where, path_of, state_count, state_paths}
-use Rattle.sc_law.specs.Configurations.{children}
 
 -- the row of these members
 abbrev pub row_of : Chart → List ℕ → RowOf

@@ -95,13 +95,8 @@ fn below_rows(alloc: Global, paths: &[Path], count: u32) -> Result<Sequence<Row>
 {
     let mut rows = Sequence::new(alloc);
     for state in 0..count {
-        rows.push(below_row(
-            alloc,
-            paths,
-            paths[state as usize].slice(),
-            state + 1,
-            count,
-        )?)?;
+        let path = paths[state as usize].slice();
+        rows.push(below_row(alloc, paths, path, state + 1, count)?)?;
     }
     Ok(rows)
 }

@@ -1,4 +1,4 @@
-use Rattle.std.proofs.Common.{◌≡◌, arith, ◌∙◌}
+use Rattle.std.proofs.Common.{◌≡◌, arith}
 use Rattle.sc_law.specs.Configurations.{defaults}
 use Rattle.sc_tables.proofs.RangeRows.{list-more, list-done}
 use Rattle.sc_tables.proofs.defaults.defaults.Goals as goal

@@ -1,4 +1,4 @@
-use Rattle.std.proofs.Common.{◌≡◌, ◌<◌, ◌+◌, ℕ, [], List, length, slice_get, unwrap_or, ap, sym, arith, ◌∙◌}
+use Rattle.std.proofs.Common.{◌≡◌, ◌+◌, ℕ, [], List, slice_get, unwrap_or, ap, sym, arith, ◌∙◌}
 use Rattle.sc_bits.specs.Rows.{RowOf}
 use Rattle.sc_types.specs.declared.chart.Node.{Node}
 use Rattle.sc_law.specs.Nodes.{Path, element, tag_of}

@@ -1,4 +1,4 @@
-use Rattle.std.proofs.Common.{◌≡◌, ℕ, List, Some, None, [], find, take, unwrap_or, option_map, ap, sym, ◌∙◌, rules}
+use Rattle.std.proofs.Common.{◌≡◌, ℕ, List, Some, None, [], find, take, unwrap_or, ap, sym, ◌∙◌, rules}
 use Rattle.sc_law.specs.Nodes.{kids}
 use Rattle.sc_law.specs.Legality.{default_ids}
 use Rattle.sc_law.specs.Configurations.{children, named, state_defaults}

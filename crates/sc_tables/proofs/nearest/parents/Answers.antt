@@ -1,6 +1,6 @@
-use Rattle.std.proofs.Common.{◌≡◌, ◌<◌, ◌+◌, ℕ, [], ◌∷◌, ◌++◌, None, get_or, length, ap, sym, refl, arith, ◌∙◌}
+use Rattle.std.proofs.Common.{◌≡◌, [], refl, arith, ◌∙◌}
 use Rattle.std.proofs.lemmas.List.{get_or_read_under}
-use Rattle.sc_tables.specs.Nearest.{path_at, IsNearest, IsPlaced}
+use Rattle.sc_tables.specs.Nearest.{path_at, IsNearest}
 use Rattle.sc_tables.proofs.Above.{parents-more}
 use Rattle.sc_tables.proofs.nearest.parents.Goals as goal
 

@@ -1,4 +1,4 @@
-use Rattle.std.proofs.Common.{◌≡◌, ◌<◌, ◌≤◌, true, false, [], take, get_or, length, length-take, ap, ap₂, sym, refl, arith, ◌∙◌}
+use Rattle.std.proofs.Common.{◌≡◌, true, false, [], ap, sym, refl, arith, ◌∙◌}
 use Rattle.std.proofs.lemmas.List.{get_or_read_under}
 use Rattle.sc_base.specs.Ascending.{with_number}
 use Rattle.sc_bits.specs.Rows.{RowOf}

@@ -1,5 +1,4 @@
 use Rattle.std.proofs.Common.{◌≡◌, take}
-use Rattle.sc_bits.specs.Rows.{RowOf}
 use Rattle.sc_law.specs.Nodes.{leads_on}
 use Rattle.sc_law.specs.Tree.{numbers_where}
 use Rattle.sc_tables.proofs.rows.below_row.Given as goal

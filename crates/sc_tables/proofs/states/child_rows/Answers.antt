@@ -1,6 +1,5 @@
-use Rattle.std.proofs.Common.{◌≡◌, ◌+◌, [], ap, sym, refl, arith, ◌∙◌}
+use Rattle.std.proofs.Common.{◌≡◌, [], sym, refl, arith, ◌∙◌}
 use Rattle.std.proofs.lemmas.List.{get_or_past, get_or_read_under}
-use Rattle.std.specs.List.{range_with_len}
 use Rattle.sc_tables.specs.Built.{children_of}
 use Rattle.sc_tables.specs.Nearest.{path_at}
 use Rattle.sc_tables.proofs.Blocks.{block-of, block-of-root}

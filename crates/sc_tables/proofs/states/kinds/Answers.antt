@@ -1,9 +1,9 @@
-use Rattle.std.proofs.Common.{◌≡◌, ◌<◌, Some, [], true, length, ap, sym, refl, arith, ◌∙◌}
+use Rattle.std.proofs.Common.{◌≡◌, Some, [], length, ap, sym, refl, arith, ◌∙◌}
 use Rattle.std.proofs.lemmas.List.{get_or_read_under}
 use Rattle.sc_types.specs.Elements.{is_numbered}
 use Rattle.sc_law.specs.Nodes.{element, tag_of}
 use Rattle.sc_law.specs.Kinds.{kind_of, kind_at}
-use Rattle.sc_law.specs.Tree.{path_of, state_element, state_paths}
+use Rattle.sc_law.specs.Tree.{state_element, state_paths}
 use Rattle.sc_tables.specs.Nearest.{path_at}
 use Rattle.sc_tables.proofs.KindLists.{kinds-more}
 use Rattle.sc_tables.proofs.LookUps.{numbered-at, path-is}

@@ -1,4 +1,4 @@
-use Rattle.std.proofs.Common.{◌≡◌, false, ap, sym, ◌∙◌}
+use Rattle.std.proofs.Common.{ap, ◌∙◌}
 use Rattle.std.specs.Arc.{arc_value}
 use Rattle.sc_types.specs.Elements.{is_numbered}
 use Rattle.sc_types.specs.declared.chart.Chart.{Chart}

@@ -1,4 +1,4 @@
-use Rattle.std.proofs.Common.{◌≡◌, ◌++◌, ◌∷◌, [], OnOk, Some, length, get_or, List, ℕ, sym, ◌∙◌}
+use Rattle.std.proofs.Common.{◌≡◌, ◌++◌, ◌∷◌, [], Some, length, get_or}
 use Rattle.std.proofs.Math.ListN.{set}
 use Rattle.sc_tables.specs.Built.{IsAddedTo, IsWithin}
 use Rattle.sc_tables.proofs.TransitionLists.{added-none, added-some, if_ok}

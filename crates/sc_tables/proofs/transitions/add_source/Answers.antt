@@ -1,7 +1,5 @@
-use Rattle.std.proofs.Common.{◌≡◌, Bool, true, [], ◌∷◌, ◌++◌, List, cond, sym, ◌∙◌}
+use Rattle.std.proofs.Common.{◌≡◌, true, sym, ◌∙◌}
 use Rattle.sc_law.specs.Legality.{is_transition}
-use Rattle.sc_law.specs.Nodes.{Path}
-use Rattle.sc_tables.specs.Built.{AreSources}
 use Rattle.sc_tables.proofs.Sources.{sources-more}
 use Rattle.sc_tables.proofs.transitions.add_source.Goals as goal
 

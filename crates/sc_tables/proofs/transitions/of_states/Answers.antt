@@ -1,5 +1,5 @@
-use Rattle.std.proofs.Common.{◌≡◌, None, get_or, All, sym, ◌∙◌, refl, arith}
-use Rattle.sc_tables.specs.Built.{IsAddedTo, IsWithin}
+use Rattle.std.proofs.Common.{None, get_or, refl}
+use Rattle.sc_tables.specs.Built.{IsAddedTo}
 use Rattle.sc_tables.proofs.TransitionLists.{own-more}
 use Rattle.sc_tables.proofs.transitions.of_states.Goals as goal
 

@@ -1,10 +1,8 @@
-use Rattle.std.proofs.Common.{◌≡◌, Bool, Some, None, true, false, [], ap, sym, refl, arith, ◌∙◌}
+use Rattle.std.proofs.Common.{◌≡◌, Bool, Some, None, true, false, [], sym, refl, arith, ◌∙◌}
 use Rattle.std.proofs.lemmas.List.{get_or_read_under}
 use Rattle.std.proofs.lemmas.Slice.Eq.{bytes_eq-Decides}
 use Rattle.std.specs.Str.{bytes_eq}
-use Rattle.sc_law.specs.Nodes.{parent}
 use Rattle.sc_tables.specs.Nearest.{IsNearest, path_at}
-use Rattle.sc_tables.specs.Built.{IsSource}
 use Rattle.sc_tables.proofs.Sources.{source-none, source-found, source-other}
 use Rattle.sc_tables.proofs.transitions.source.Goals as goal
 

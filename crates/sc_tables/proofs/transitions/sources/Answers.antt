@@ -1,14 +1,12 @@
-use Rattle.std.proofs.Common.{◌≡◌, ◌+◌, ◌<◌, ◌≤◌, Bool, true, false, ℕ, List, [], ◌∷◌, ◌++◌, cond, filter, length, take, get_or, ap, ap₂, subst, sym, refl, arith, ◌∙◌}
+use Rattle.std.proofs.Common.{◌≡◌, ◌+◌, ℕ, List, [], ◌∷◌, ◌++◌, cond, filter, length, take, ap, ap₂, subst, sym, refl, arith, ◌∙◌}
 use Rattle.std.proofs.lemmas.List.{get_or_read_under}
 use Rattle.std.proofs.lemmas.List.Elements.{filter_more}
 use Rattle.std.proofs.lemmas.List.Filters.{length-filter_more}
 use Rattle.sc_types.specs.Elements.{is_numbered}
-use Rattle.sc_types.specs.declared.chart.Chart.{Chart}
 use Rattle.sc_types.specs.declared.chart.Node.{Node}
 use Rattle.sc_law.specs.Legality.{is_transition}
 use Rattle.sc_law.specs.Nodes.{Path, element, elements, tag_of}
-use Rattle.sc_law.specs.Tree.{state_paths}
-use Rattle.sc_tables.specs.Built.{AddsSource, AreSources, IsPlacedIf, StandsBehind}
+use Rattle.sc_tables.specs.Built.{AddsSource, AreSources}
 use Rattle.sc_tables.specs.Nearest.{path_at}
 use Rattle.sc_tables.proofs.Placed.{is_state_path, placed_if, states_before_le}
 use Rattle.sc_tables.proofs.transitions.sources.Goals as goal

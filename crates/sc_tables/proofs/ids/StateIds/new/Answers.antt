@@ -1,4 +1,4 @@
-use Rattle.std.proofs.Common.{◌≡◌, ◌∙◌, sym, ap, refl, arith, length}
+use Rattle.std.proofs.Common.{◌∙◌, ap, arith}
 use Rattle.sc_law.specs.Nodes.{element}
 use Rattle.sc_tables.specs.Ids.{IsAdded}
 use Rattle.sc_tables.proofs.Identifiers.{one_more, all_numbers}

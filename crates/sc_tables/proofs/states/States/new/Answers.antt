@@ -1,12 +1,9 @@
-use Rattle.std.proofs.Common.{◌≡◌, ◌+◌, ◌<◌, ℕ, length, map, ap, sym, refl, arith, ◌∙◌, rules}
+use Rattle.std.proofs.Common.{◌≡◌, ◌+◌, length, map, ap, arith, ◌∙◌, rules}
 use Rattle.std.specs.List.{range_with_len}
-use Rattle.sc_law.specs.Nodes.{Path}
 use Rattle.sc_law.specs.Tree.{state_count, state_paths}
 use Rattle.sc_law.specs.Configurations.{children}
 use Rattle.sc_tables.specs.Blocks.{AreBelowRoot}
-use Rattle.sc_tables.specs.Built.{HasKinds, below_of, children_of}
-use Rattle.sc_tables.specs.Nearest.{HasParents}
-use Rattle.sc_tables.specs.Preorder.{IsPreorder}
+use Rattle.sc_tables.specs.Built.{below_of, children_of}
 use Rattle.sc_tables.specs.Rows.{below, row_of}
 use Rattle.sc_tables.proofs.LookUps.{below-is, below_root, children-is}
 use Rattle.sc_tables.proofs.Placed.{states_ordered}

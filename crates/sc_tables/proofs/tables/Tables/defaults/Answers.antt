@@ -1,4 +1,4 @@
-use Rattle.std.proofs.Common.{◌≡◌, ◌≤◌, length, ap, subst, sym, arith, ◌∙◌}
+use Rattle.std.proofs.Common.{◌≤◌, ap, subst, sym, arith, ◌∙◌}
 use Rattle.sc_types.specs.declared.chart.Chart.{Chart}
 use Rattle.sc_law.specs.Tree.{state_count}
 use Rattle.sc_law.specs.Configurations.{defaults}

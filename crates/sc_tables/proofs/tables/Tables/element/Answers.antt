@@ -1,4 +1,4 @@
-use Rattle.std.proofs.Common.{◌≡◌, List, [], slice_get, unwrap_or, ap, ap₂, sym, ◌∙◌}
+use Rattle.std.proofs.Common.{List, [], slice_get, unwrap_or, ap, ap₂, ◌∙◌}
 use Rattle.sc_types.specs.declared.chart.Chart.{Chart}
 use Rattle.sc_law.specs.Nodes.{Path, element}
 use Rattle.sc_law.specs.Tree.{state_element}

@@ -1,9 +1,8 @@
-use Rattle.std.proofs.Common.{◌≡◌, ◌<◌, ◌≤◌, true, ap, eq-eqb, subst, sym, arith, ◌∙◌}
+use Rattle.std.proofs.Common.{◌≡◌, ◌<◌, true, ap, eq-eqb, subst, sym, arith, ◌∙◌}
 use Rattle.sc_base.specs.Ascending.{contains}
 use Rattle.sc_bits.specs.Rows.{RowOf}
 use Rattle.sc_types.specs.declared.chart.Chart.{Chart}
 use Rattle.sc_law.specs.Tree.{is_below, root, state_count}
-use Rattle.sc_tables.specs.Rows.{below}
 use Rattle.sc_tables.proofs.Within.{below_has, below_root_is}
 use Rattle.sc_tables.proofs.tables.Tables.is_below.Goals as goal
 

@@ -1,6 +1,6 @@
-use Rattle.std.proofs.Common.{◌≡◌, ◌<◌, ◌≤◌, Option, Some, None, get_or, List, ℕ, length, unwrap_or, ap, subst, sym, arith, ◌∙◌}
+use Rattle.std.proofs.Common.{◌≡◌, ◌<◌, Option, Some, None, get_or, List, ℕ, length, unwrap_or, ap, subst, sym, arith, ◌∙◌}
 use Rattle.sc_types.specs.declared.chart.Chart.{Chart}
-use Rattle.sc_law.specs.Tree.{root, state_count, state_paths}
+use Rattle.sc_law.specs.Tree.{root, state_count}
 use Rattle.sc_law.specs.Transitions.{source, transition_paths}
 use Rattle.sc_tables.proofs.LookUps.{source-is}
 use Rattle.sc_tables.specs.Built.{IsWithin}

@@ -1,11 +1,10 @@
-use Rattle.std.proofs.Common.{◌≡◌, ◌<◌, ℕ, Option, All, List, [], length, get_or, map, ap, ap₂, sym, refl, arith, ◌∙◌, rules}
+use Rattle.std.proofs.Common.{◌≡◌, All, length, map, ap, ◌∙◌, rules}
 use Rattle.sc_types.specs.Attributes.{words_at}
 use Rattle.sc_types.specs.declared.attribute.Attribute.TheVariants.{Target}
-use Rattle.sc_types.specs.declared.chart.Chart.{Chart}
-use Rattle.sc_law.specs.Nodes.{Path, element, is_same, parent}
+use Rattle.sc_law.specs.Nodes.{Path, element}
 use Rattle.sc_law.specs.Configurations.{named}
-use Rattle.sc_law.specs.Tree.{numbers_where, path_of, state_count, state_paths}
-use Rattle.sc_law.specs.Transitions.{transition_paths, transitions_of}
+use Rattle.sc_law.specs.Tree.{state_count, state_paths}
+use Rattle.sc_law.specs.Transitions.{transition_paths}
 use Rattle.sc_tables.specs.Built.{AreSources, HasOwn, IsWithin}
 use Rattle.sc_tables.proofs.LookUps.{own-is}
 use Rattle.sc_tables.proofs.Sources.{sources-within}
