@@ -21,8 +21,14 @@ pub fn begun(alloc: Global, words: &Words) -> (State, Answer) {
 }
 
 fn new_disk(alloc: Global, words: &Words) -> Result<MemDisk, NoMemory> {
-    let [room, calls, written, failing @ ..] = words.numbers;
-    MemDisk::new(alloc, room.min(MOST), calls, written, &failing)
+    let room = words.numbers[0].min(MOST);
+    MemDisk::new(
+        alloc,
+        room,
+        words.numbers[1],
+        words.numbers[2],
+        &words.numbers[3..],
+    )
 }
 
 // A disk whose journal has so many entries of so many bytes.
@@ -40,10 +46,11 @@ fn filled(alloc: Global, count: u64, size: u64) -> Result<MemDisk, NoMemory> {
 
 fn text_of(alloc: Global, count: u64, body: &[u8]) -> Result<Vec<u8>, NoMemory> {
     let mut text = Vec::new(alloc);
+    let size = (body.len() % (1 << 32)) as u32;
     text.extend_from_slice(b"\x01SCXHOST\x00\x00\x00\x01\x00\x00\x00\x00\x00\x00\x00\x01")?;
     for _ in 0..count {
         text.push(1)?;
-        text.extend_from_slice(&(body.len() as u32).to_be_bytes())?;
+        text.extend_from_slice(&size.to_be_bytes())?;
         text.extend_from_slice(body)?;
     }
     text.push(0)?;
@@ -114,7 +121,7 @@ fn read(alloc: Global, disk: &mut MemDisk, words: &Words) -> Answer {
 
 fn stopped(disk: MemDisk, words: &Words) -> (State, Answer) {
     let [first, second, calls, ..] = words.numbers;
-    match disk.crash(&[first as u8, second as u8], calls) {
+    match disk.crash(&[(first % 256) as u8, (second % 256) as u8], calls) {
         Ok(left) => (State::Disk(left), Answer::Done(0)),
         Err(NoMemory) => (State::Disk(disk), Answer::NoMemory),
     }
