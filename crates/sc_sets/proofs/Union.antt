@@ -1,11 +1,17 @@
+pub mod Above
 pub mod Alone
 pub mod Apart
 pub mod Below
+pub mod Conditions
 pub mod FineTargets
 pub mod Forks
+pub mod Kept
 pub mod Law
 pub mod LegalDefaults
 pub mod LegalElements
 pub mod NamedStates
 pub mod Numbers
 pub mod Parents
+pub mod Recorded
+pub mod SomeDefaults
+pub mod Taken

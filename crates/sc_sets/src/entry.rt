@@ -1,9 +1,9 @@
-ghost use Rattle.std.specs.Prelude.{◌≡◌, ◌<◌, All, IfOk, OnOk, length, map};
+ghost use Rattle.std.specs.Prelude.{◌≡◌, ◌<◌, ℕ, All, IfOk, List, OnOk, length, map};
 ghost use Rattle.sc_law.specs.Entry.{entry, entry_of, first_entry, no_entry};
 ghost use Rattle.sc_law.specs.Transitions.{transition_paths};
 ghost use Rattle.sc_law.specs.Tree.{state_count};
 ghost use Rattle.sc_sets.specs.Conditions.{KeepsStates};
-ghost use Rattle.sc_sets.specs.Union.{AreTaken, alone, united};
+ghost use Rattle.sc_sets.specs.Union.{AreKept, alone, recorded_by, united};
 ghost use Rattle.sc_sets.specs.Triples.{Becomes, HasWidth, triple_of};
 
 use crate::domains::domain;
@@ -53,7 +53,8 @@ pub fn entry_rows(
     requires kept { KeepsStates t.now h.now }
     ensures value { IfOk result (λ e. HasWidth (state_count t.now) e
         × (triple_of e ≡ entry t.now before.now h.now trs.now)) }
-    ensures union { AreTaken t.now before.now h.now trs.now
+    ensures union { (configuration : List ℕ) → AreKept t.now before.now configuration trs.now
+        → h.now ≡ recorded_by t.now before.now trs.now configuration
         → IfOk result (λ e. e.states.members ≡ united (map (alone t.now before.now h.now) trs.now)) }
 {
     let mut e = Entry3::new(alloc, t.count())?;

@@ -1,18 +1,18 @@
 -- The states that several transitions enter are those that each enters alone.
-use Rattle.std.proofs.Common.{◌≡◌, ◌⊎◌, inl, inr, ℕ, ◌<◌, ◌==◌, ◌&&◌, ◌||◌, not, nat_lt, zero, suc, Bool, true, false, cond, Option, Some, None, IfSome, List, [], ◌∷◌, ◌++◌, refl, arith, ap, sym, subst, ◌∙◌}
+use Rattle.std.proofs.Common.{◌≡◌, inl, inr, ℕ, ◌||◌, Bool, true, false, cond, Option, Some, None, List, [], ◌∷◌, ◌++◌, refl, ap, sym, subst, ◌∙◌}
 use Rattle.std.specs.List.{list_any}
 use Rattle.std.specs.Option.{option_map_or}
 use Rattle.std.proofs.lemmas.Bool.{cases_order}
 use Rattle.sc_base.specs.Ascending.{contains, joined, with_number}
 use Rattle.sc_base.specs.Folds.{each}
 use Rattle.sc_types.specs.declared.chart.Chart.{Chart}
-use Rattle.sc_law.specs.Tree.{is_below, path_of, state_count}
+use Rattle.sc_law.specs.Tree.{is_below, state_count}
 use Rattle.sc_law.specs.Transitions.{targets}
 use Rattle.sc_law.specs.Sets.{Histories, domain, effective_targets}
-use Rattle.sc_law.specs.Entry.{EntryTriple, Enters, added, enter_targets, enters, entry, entry_of, is_begun, no_entry, noted, up}
+use Rattle.sc_law.specs.Entry.{EntryTriple, added, enter_targets, enters, entry, entry_of, is_begun, no_entry, noted, up}
 use Rattle.sc_sets.proofs.Union.Numbers.{any-joined, joined-with, with-less, with-more, with-same}
 use Rattle.std.specs.List.{AllByRecursion as AllOf}
-use Rattle.sc_sets.proofs.Union.Below.{Fine, HasDefaults, IsKept, IsTree, Keeps, Relation, Within, all-of-map, keeps-down, keeps-each, keeps-then, keeps-up}
+use Rattle.sc_sets.proofs.Union.Below.{Fine, HasDefaults, IsKept, IsTree, Keeps, Relation, all-of-map, keeps-down, keeps-each, keeps-then, keeps-up}
 
 noted-keeps : (s : ℕ) (e : EntryTriple) → (noted s e).states ≡ e.states
 noted-keeps s e = by (contains e.noted s) where
@@ -84,9 +84,9 @@ keeps-targets c h tree has d T kept ss fine =
     (keeps-each T (enters c h d) ss (all-of-map (Fine c h d) _ ss (keeps-down c h tree has d T kept (state_count c)) fine))
     (keeps-each T (up c (enters c h d) d) (effective_targets c h ss) (ups (effective_targets c h ss)))
   where
-  ups : (ts : List ℕ) → AllOf (λ t. Keeps T (up c (enters c h d) d t)) ts
-  ups [] = tt
-  ups (t ∷ ts) = (keeps-up c h tree d T kept (enters c h d) d t (keeps-down c h tree has d T kept (state_count c)) (inr refl), ups ts)
+    ups : (ts : List ℕ) → AllOf (λ t. Keeps T (up c (enters c h d) d t)) ts
+    ups [] = tt
+    ups (t ∷ ts) = (keeps-up c h tree d T kept (enters c h d) d t (keeps-down c h tree has d T kept (state_count c)) (inr refl), ups ts)
 
 -- the states that a transition enters alone
 abbrev pub alone : Chart → Histories → Histories → ℕ → List ℕ
@@ -157,9 +157,9 @@ union-from c before h tree has [] e fine apart outside = refl
 union-from c before h tree has (t ∷ ts) e fine apart outside =
     let adds = transition-adds c before h tree has t e fine.0 outside.0 in
     let later : AllOf (IsOutside c before (entry_of c before h t e).states) ts =
-        subst (λ ss. AllOf (IsOutside c before ss) ts) (sym adds)
-        (all-both (ApartFrom c before t) (IsOutside c before e.states) (IsOutside c before (joined e.states (alone c before h t))) ts
-        (λ u a o. outside-more c before h tree has t u e.states (domain c before t) refl fine.0 a o) apart.0 outside.1) in
+    subst (λ ss. AllOf (IsOutside c before ss) ts) (sym adds)
+    (all-both (ApartFrom c before t) (IsOutside c before e.states) (IsOutside c before (joined e.states (alone c before h t))) ts
+    (λ u a o. outside-more c before h tree has t u e.states (domain c before t) refl fine.0 a o) apart.0 outside.1) in
     union-from c before h tree has ts (entry_of c before h t e) fine.1 apart.1 later
     ∙ ap (each (λ t all. joined all (alone c before h t)) ts) adds
 

@@ -1,8 +1,8 @@
 -- Domains that have nothing below both.
-use Rattle.std.proofs.Common.{◌≡◌, ◌⊎◌, inl, inr, ℕ, ◌+◌, ◌<◌, ◌≤◌, ◌==◌, ◌&&◌, not, zero, suc, Bool, true, false, cond, Option, Some, None, unwrap_or, List, [], ◌∷◌, ◌++◌, find, length, position, reverse, get_or, refl, arith, ap, sym, subst, ◌∙◌}
+use Rattle.std.proofs.Common.{◌≡◌, ◌⊎◌, inl, inr, ℕ, ◌<◌, ◌≤◌, ◌==◌, ◌&&◌, not, Bool, true, false, cond, Option, Some, None, unwrap_or, List, [], ◌∷◌, ◌++◌, find, length, reverse, refl, arith, ap, sym, subst, ◌∙◌}
 use Rattle.std.proofs.lemmas.Bool.{cases_lt, cases_order}
 use Rattle.std.proofs.lemmas.Bool.Decides.{nat_tests}
-use Rattle.std.proofs.lemmas.List.{get_or_past, reverse-append}
+use Rattle.std.proofs.lemmas.List.{reverse-append}
 use Rattle.std.proofs.lemmas.List.Quantifiers.{position-Some}
 use Rattle.sc_types.specs.declared.chart.Chart.{Chart}
 use Rattle.sc_law.specs.Nodes.{Path, is_same, leads_on, parent}
@@ -12,7 +12,7 @@ use Rattle.sc_law.specs.Legality.{legal_fault}
 use Rattle.sc_law.specs.Transitions.{path_of_transition, source, targets}
 use Rattle.sc_law.specs.Sets.{Histories, domain, domain_over, effective_targets, is_above_all, is_own_domain, nearest_above}
 use Rattle.sc_tables.specs.Nearest.{path_at}
-use Rattle.sc_tables.specs.Preorder.{IsPreorder, comes_before}
+use Rattle.sc_tables.specs.Preorder.{IsPreorder}
 use Rattle.sc_tables.proofs.LegalRoots.{root_not_numbered}
 use Rattle.sc_tables.proofs.LookUps.{below_root, path-is}
 use Rattle.sc_tables.proofs.Numbers.{AreBelow, numbers-below}
@@ -21,7 +21,7 @@ use Rattle.sc_tables.proofs.Placed.{states_ordered}
 use Rattle.std.specs.List.{AllByRecursion as AllOf}
 use Rattle.sc_sets.proofs.Union.Forks.{fork}
 use Rattle.sc_sets.proofs.Union.Parents.{past-root}
-use Rattle.sc_sets.specs.Union.{HaveApart, are_apart}
+use Rattle.sc_sets.proofs.Union.Conditions.{HaveApart, are_apart}
 use Rattle.sc_sets.proofs.Union.Alone.{ApartFrom, AreApart}
 
 -- ---- a number for each path
@@ -35,9 +35,9 @@ states-differ : (c : Chart) (s t : ℕ) → legal_fault c ≡ None → s < t →
 states-differ c s t legal l m e = elim (cases_lt t (state_count c)) [
   | inl within ↦ differ (state_paths c) s t (states_ordered c) l within (sym (path-is c s) ∙ e ∙ path-is c t)
   | inr past ↦
-    let some = below_root c (root_not_numbered c legal) s (omega arith) in
-    let none : path_at (state_paths c) s ≡ [] = sym (path-is c s) ∙ e ∙ past-root c t past in
-    let short : length (path_at (state_paths c) s) ≡ 0 = ap length none in omega (arith, some, short)
+      let some = below_root c (root_not_numbered c legal) s (omega arith) in
+      let none : path_at (state_paths c) s ≡ [] = sym (path-is c s) ∙ e ∙ past-root c t past in
+      let short : length (path_at (state_paths c) s) ≡ 0 = ap length none in omega (arith, some, short)
 ]
 
 -- no two states of a legal chart, with its root, have the same path
@@ -63,7 +63,7 @@ all-append : (P : ℕ → Type 0) (xs ys : List ℕ) → AllOf P xs → AllOf P 
 all-append P [] ys h i = i
 all-append P (x ∷ xs) ys h i = (h.0, all-append P xs ys h.1 i)
 
-all-reverse : (P : ℕ → Type 0) (xs : List ℕ) → AllOf P xs → AllOf P (reverse xs)
+pub all-reverse : (P : ℕ → Type 0) (xs : List ℕ) → AllOf P xs → AllOf P (reverse xs)
 all-reverse P [] h = tt
 all-reverse P (x ∷ xs) h = subst (AllOf P) (sym (reverse-append (x ∷ []) xs)) (all-append P (reverse xs) (x ∷ []) (all-reverse P xs h.1) (h.0, tt))
 
@@ -124,6 +124,7 @@ pub apart-below : (c : Chart) (d e s : ℕ) → legal_fault c ≡ None → d ≤
 apart-below c d e s legal l m apart below = false-by (is_below c s e) (λ other. by (fork c s d e below other)) where
   parts : (not (d == e) ≡ true) × ((not (is_below c d e) ≡ true) × (not (is_below c e d) ≡ true))
   parts = apart-parts (not (d == e)) (not (is_below c d e)) (not (is_below c e d)) apart
+
   by : (is_below c d e ≡ true) ⊎ ((is_below c e d ≡ true) ⊎ (path_of c d ≡ path_of c e)) → ⊥
   by (inl within) = let no = not-true (is_below c d e) parts.1.0 in cc
   by (inr (inl above)) = let no = not-true (is_below c e d) parts.1.1 in cc

@@ -1,15 +1,14 @@
 -- What entering below a domain keeps: a relation of two entries that each addition below the domain keeps.
-use Rattle.std.proofs.Common.{◌≡◌, ◌⊎◌, inl, inr, ℕ, ◌<◌, ◌==◌, ◌&&◌, ◌||◌, not, nat_lt, zero, suc, Bool, true, false, cond, Option, Some, None, unwrap_or, List, [], ◌∷◌, ◌++◌, filter, refl, arith, ap, sym, subst, ◌∙◌}
+use Rattle.std.proofs.Common.{◌≡◌, ◌⊎◌, inl, inr, ℕ, ◌&&◌, ◌||◌, zero, suc, Bool, true, false, cond, Option, Some, None, unwrap_or, List, [], ◌∷◌, filter, refl, ap, sym, subst, ◌∙◌}
 use Rattle.std.specs.List.{AllByRecursion as AllOf, list_all, list_any}
-use Rattle.sc_base.specs.Ascending.{contains, joined, with_number}
+use Rattle.sc_base.specs.Ascending.{with_number}
 use Rattle.sc_base.specs.Folds.{each}
 use Rattle.sc_types.specs.declared.chart.Chart.{Chart}
 use Rattle.sc_law.specs.Tree.{ancestors, is_below, path_of}
 use Rattle.sc_law.specs.Kinds.{is_compound, is_history, is_parallel}
-use Rattle.sc_law.specs.Configurations.{children, defaults, parent_of}
+use Rattle.sc_law.specs.Configurations.{children, defaults}
 use Rattle.sc_law.specs.Sets.{Histories, stands_for, value_of_history}
 use Rattle.sc_law.specs.Entry.{EntryTriple, Enters, added, bound_of, by_default, down, is_begun, noted, reach, recall, region, regions, settle_in, through, up}
-use Rattle.sc_sets.proofs.Union.Numbers.{any-joined, joined-with}
 
 -- a relation of two entries
 abbrev pub Relation : Type 1
@@ -112,10 +111,10 @@ pub keeps-regions : (c : Chart) (h : Histories) (tree : IsTree c) (d : ℕ) (T :
     → Moving c h d T enters → is_below c s d ≡ true → Keeps T (regions c enters s)
 keeps-regions c h tree d T kept enters s moving below =
     keeps-each T (region c enters) (children c s) (all-of-map _ _ (children c s) by (tree.kids s)) where
-  by : (kid : ℕ) → (is_history c kid ≡ false) × (is_below c kid s ≡ true) → Keeps T (region c enters kid)
-  by kid is =
-      let low : is_below c kid d ≡ true = tree.on kid s d is.1 below in
-      keeps-region c d T kept enters kid low (moving kid (fine-state c h d kid is.0 low))
+      by : (kid : ℕ) → (is_history c kid ≡ false) × (is_below c kid s ≡ true) → Keeps T (region c enters kid)
+      by kid is =
+          let low : is_below c kid d ≡ true = tree.on kid s d is.1 below in
+          keeps-region c d T kept enters kid low (moving kid (fine-state c h d kid is.0 low))
 
 keeps-chosen : (T : Relation) (v : Bool) (f g : EntryTriple → EntryTriple) → Keeps T f → Keeps T g → Keeps T (cond v f g)
 keeps-chosen T true f g h i = h
@@ -192,8 +191,10 @@ keeps-recalled c h tree d T kept enters s ss moving is same fine = by fine.bound
   by (inl within) = λ e f eq. keeps-reach c h tree d T kept enters (bound_of c d s) ss moving (within is)
       (fine-all c h d ss (subst (λ ts. AllOf (λ t. (is_history c t ≡ false) × (is_below c t d ≡ true)) ts) same fine.each)) e f eq
   by (inr nothing) = λ e f eq.
-      rw (reach-nothing c enters (bound_of c d s) ss e (sym same ∙ nothing),
-      reach-nothing c enters (bound_of c d s) ss f (sym same ∙ nothing)) eq
+      rw (
+        reach-nothing c enters (bound_of c d s) ss e (sym same ∙ nothing),
+        reach-nothing c enters (bound_of c d s) ss f (sym same ∙ nothing),
+      ) eq
 
 stands-for-history : (c : Chart) (h : Histories) (s : ℕ) (o : Option (List ℕ)) → is_history c s ≡ true → value_of_history h s ≡ o
     → stands_for c h s ≡ unwrap_or o (defaults c s)

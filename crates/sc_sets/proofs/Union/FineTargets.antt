@@ -1,16 +1,14 @@
 -- Targets whose states are below a domain: default targets, and those of transitions.
-use Rattle.std.proofs.Common.{◌≡◌, ◌⊎◌, inl, inr, ℕ, ◌+◌, ◌<◌, ◌≤◌, ◌==◌, ◌&&◌, not, nat_eq, nat_lt, zero, suc, Bool, true, false, cond, IsTrue, Option, Some, None, option_and_then, unwrap_or, All, List, [], ◌∷◌, ◌++◌, filter, find, flat_map, length, refl, arith, ap, sym, subst, ◌∙◌}
+use Rattle.std.proofs.Common.{◌≡◌, ◌⊎◌, inl, inr, ℕ, ◌<◌, ◌≤◌, ◌==◌, ◌&&◌, not, nat_eq, nat_lt, suc, Bool, true, false, cond, Option, Some, None, option_and_then, unwrap_or, All, List, [], ◌∷◌, ◌++◌, filter, find, flat_map, length, refl, arith, ap, sym, subst, ◌∙◌}
 use Rattle.std.proofs.lemmas.Bool.Decides.{nat_tests}
 use Rattle.std.proofs.lemmas.List.Elements.{recursion_from_All}
-use Rattle.std.specs.List.{list_all}
-use Rattle.sc_base.specs.Ascending.{contains}
 use Rattle.sc_types.specs.declared.chart.Chart.{Chart}
 use Rattle.sc_law.specs.Nodes.{leads_on, parent}
-use Rattle.sc_law.specs.Tree.{is_below, path_of, root, state_count}
-use Rattle.sc_law.specs.Kinds.{is_atomic, is_compound, is_deep, is_history}
+use Rattle.sc_law.specs.Tree.{is_below, path_of, state_count}
+use Rattle.sc_law.specs.Kinds.{is_atomic, is_deep, is_history}
 use Rattle.sc_law.specs.Legality.{legal_fault}
-use Rattle.sc_law.specs.Configurations.{IsConfiguration, defaults, named, parent_of}
-use Rattle.sc_law.specs.Sets.{Histories, domain, effective_targets, some_states, stands_for, value_of_history}
+use Rattle.sc_law.specs.Configurations.{IsConfiguration, defaults, parent_of}
+use Rattle.sc_law.specs.Sets.{Histories, effective_targets, some_states, stands_for, value_of_history}
 use Rattle.sc_law.specs.Entry.{bound_of}
 use Rattle.sc_law.specs.Records.{records}
 use Rattle.sc_law.specs.Fitting.{IsRecorded}
@@ -20,11 +18,11 @@ use Rattle.sc_tables.proofs.LookUps.{path-is}
 use Rattle.sc_tables.proofs.Order.{begins, begins-trans}
 use Rattle.sc_tables.proofs.Within.{below_root_is, defaults_within, named_within}
 use Rattle.std.specs.List.{AllByRecursion as AllOf}
-use Rattle.sc_sets.proofs.Union.Below.{Fine, HasDefaults, IsTree, Within, all-of-filter, all-of-map, all-of-true, fine-state}
+use Rattle.sc_sets.proofs.Union.Below.{Fine, HasDefaults, Within, all-of-map, all-of-true, fine-state}
 use Rattle.sc_sets.proofs.Union.Forks.{filter-hold, fork, is-tree}
 use Rattle.sc_sets.proofs.Union.LegalDefaults.{compound-defaults, history-defaults}
 use Rattle.sc_sets.proofs.Union.Parents.{HasParent, at-parent, parent-above-element, parent-near}
-use Rattle.sc_sets.specs.Union.{IsAboveTargets}
+use Rattle.sc_sets.proofs.Union.Conditions.{IsAboveTargets}
 use Rattle.sc_sets.proofs.Union.Alone.{FineTargets}
 
 both : (v w : Bool) → (v && w) ≡ true → (v ≡ true) × (w ≡ true)
@@ -51,6 +49,7 @@ below-parent : (c : Chart) (s : ℕ) → legal_fault c ≡ None → s < state_co
 below-parent c s legal l = by has.0 has.1 where
   has : (o : Option ℕ) × HasParent c s o
   has = parent-near c s l
+
   by : (o : Option ℕ) → HasParent c s o → is_below c s (parent_of c s) ≡ true
   by None near = ap (is_below c s) near.same ∙ below_root_is c s legal l
   by (Some p) near =
@@ -67,16 +66,20 @@ records-below c configuration s legal is = by (is_deep c s) where
   states : AllOf (λ a. (a < state_count c) × (is_history c a ≡ false)) configuration
   states = all-of-map _ _ configuration
       (λ a t. let parts = both (nat_lt a (state_count c)) (not (is_history c a)) t in
-        ((let l = parts.0 in grind (arith, nat_tests)), not-true (is_history c a) parts.1))
+      ((let l = parts.0 in grind (arith, nat_tests)), not-true (is_history c a) parts.1))
       (all-of-true (λ a. nat_lt a (state_count c) && not (is_history c a)) configuration is.states)
+
   by : (v : Bool) → AllOf (IsRecalled c s) (cond v (filter (λ a. is_below c a (parent_of c s) && is_atomic c a) configuration)
       (filter (λ a. parent_of c a == parent_of c s) configuration))
   by true = all-of-map _ _ (filter (λ a. is_below c a (parent_of c s) && is_atomic c a) configuration)
       (λ a t. (t.1.1, (both (is_below c a (parent_of c s)) (is_atomic c a) t.0).0))
       (filter-hold (λ a. (a < state_count c) × (is_history c a ≡ false)) (λ a. is_below c a (parent_of c s) && is_atomic c a) configuration states)
   by false = all-of-map _ _ (filter (λ a. parent_of c a == parent_of c s) configuration)
-      (λ a t. (t.1.1, (let e : parent_of c a ≡ parent_of c s = (let u = t.0 in grind (arith, nat_tests)) in
-        subst (λ p. is_below c a p ≡ true) e (below-parent c a legal t.1.0))))
+      (λ a t. (
+        t.1.1,
+        (let e : parent_of c a ≡ parent_of c s = (let u = t.0 in grind (arith, nat_tests)) in
+            subst (λ p. is_below c a p ≡ true) e (below-parent c a legal t.1.0)),
+      ))
       (filter-hold (λ a. (a < state_count c) × (is_history c a ≡ false)) (λ a. parent_of c a == parent_of c s) configuration states)
 
 recorded-below : (c : Chart) (kept : ℕ × List ℕ) → legal_fault c ≡ None → IsRecorded c kept → AllOf (IsRecalled c kept.0) kept.1
@@ -95,6 +98,7 @@ value-below c s (kept ∷ h) ss legal all is = by (kept.0 == s) refl is (value-b
       let all_kept = recorded-below c kept legal all.0 in
       let eq : (t ∷ ts) ≡ ss = cc in
       subst (AllOf (IsRecalled c s)) (e ∙ eq) (subst (λ k. AllOf (IsRecalled c k) kept.1) same all_kept)
+
   by : (v : Bool) → (kept.0 == s) ≡ v
       → option_and_then (λ (k : ℕ × List ℕ). some_states k.1) (cond v (Some kept) (find (λ (k : ℕ × List ℕ). k.0 == s) h)) ≡ Some ss
       → (value_of_history h s ≡ Some ss → AllOf (IsRecalled c s) ss) → AllOf (IsRecalled c s) ss
@@ -110,22 +114,22 @@ begins-length (x ∷ p) (y ∷ q) h = let l : length p ≤ length q = begins-len
 defaults-below : (c : Chart) (s : ℕ) → legal_fault c ≡ None → s < state_count c → is_history c s ≡ true → AllOf (IsRecalled c s) (defaults c s)
 defaults-below c s legal l is =
     all-of-map _ _ (defaults c s) (λ u t. (t.1.0, below u t.1.1)) (history-defaults c s legal l is) where
-  below : (u : ℕ) → leads_on (parent (path_of c s)) (path_of c u) ≡ true → is_below c u (parent_of c s) ≡ true
-  below u h =
-      let above = parent-above-element c s l in
-      let short = begins-length (path_of c (parent_of c s)) (parent (path_of c s)) above in
-      let long = leads-shorter (parent (path_of c s)) (path_of c u) h in
-      leads-from (path_of c (parent_of c s)) (path_of c u)
-      (begins-trans (path_of c (parent_of c s)) (parent (path_of c s)) (path_of c u) above (leads-begin (parent (path_of c s)) (path_of c u) h)) (omega arith)
+      below : (u : ℕ) → leads_on (parent (path_of c s)) (path_of c u) ≡ true → is_below c u (parent_of c s) ≡ true
+      below u h =
+          let above = parent-above-element c s l in
+          let short = begins-length (path_of c (parent_of c s)) (parent (path_of c s)) above in
+          let long = leads-shorter (parent (path_of c s)) (path_of c u) h in
+          leads-from (path_of c (parent_of c s)) (path_of c u)
+          (begins-trans (path_of c (parent_of c s)) (parent (path_of c s)) (path_of c u) above (leads-begin (parent (path_of c s)) (path_of c u) h)) (omega arith)
 
 -- what a history stands for
 pub history-states : (c : Chart) (h : Histories) (s : ℕ) → legal_fault c ≡ None → AllOf (IsRecorded c) h → s < state_count c → is_history c s ≡ true
     → AllOf (IsRecalled c s) (stands_for c h s)
 history-states c h s legal all l is =
     rw is (by (value_of_history h s) refl) where
-  by : (o : Option (List ℕ)) → value_of_history h s ≡ o → AllOf (IsRecalled c s) (unwrap_or o (defaults c s))
-  by None e = defaults-below c s legal l is
-  by (Some ss) e = value-below c s h ss legal all e
+      by : (o : Option (List ℕ)) → value_of_history h s ≡ o → AllOf (IsRecalled c s) (unwrap_or o (defaults c s))
+      by None e = defaults-below c s legal l is
+      by (Some ss) e = value-below c s h ss legal all e
 
 -- ---- default targets of compound states
 
@@ -169,11 +173,11 @@ fine-history : (c : Chart) (h : Histories) (d t : ℕ) (us : List ℕ) → stand
 fine-history c h d t [] e low recalled = inr e
 fine-history c h d t (u ∷ us) e low recalled =
     inl (λ is. within-bound c d (parent_of c t) (is_below c d (parent_of c t)) (by (fork c u d (parent_of c t) low.0 recalled.0.1))) where
-  by : (is_below c d (parent_of c t) ≡ true) ⊎ ((is_below c (parent_of c t) d ≡ true) ⊎ (path_of c d ≡ path_of c (parent_of c t)))
-      → is_below c d (parent_of c t) ≡ false → Within c d (parent_of c t)
-  by (inl below) other = absurd (cc)
-  by (inr (inl above)) other = inl above
-  by (inr (inr same)) other = inr (sym same)
+      by : (is_below c d (parent_of c t) ≡ true) ⊎ ((is_below c (parent_of c t) d ≡ true) ⊎ (path_of c d ≡ path_of c (parent_of c t)))
+          → is_below c d (parent_of c t) ≡ false → Within c d (parent_of c t)
+      by (inl below) other = absurd (cc)
+      by (inr (inl above)) other = inl above
+      by (inr (inr same)) other = inr (sym same)
 
 fine-target : (c : Chart) (h : Histories) (d t : ℕ) → legal_fault c ≡ None → AllOf (IsRecorded c) h → t < state_count c
     → AllOf (λ u. is_below c u d ≡ true) (stands_for c h t) → Fine c h d t
@@ -189,7 +193,8 @@ fine-target c h d t legal all l low = by (is_history c t) refl where
         bound = fine-history c h d t (stands_for c h t) refl low recalled;
       }
 
-all-parts : (P : ℕ → Type 0) (f : ℕ → List ℕ) (ts : List ℕ) → AllOf P (flat_map f ts) → AllOf (λ t. AllOf P (f t)) ts
+-- what holds of all that some items give holds of what each gives
+pub all-parts : (P : ℕ → Type 0) (f : ℕ → List ℕ) (ts : List ℕ) → AllOf P (flat_map f ts) → AllOf (λ t. AllOf P (f t)) ts
 all-parts P f [] h = tt
 all-parts P f (t ∷ ts) h = let parts = front (f t) h in (parts.0, all-parts P f ts parts.1) where
   front : (xs : List ℕ) → AllOf P (xs ++ flat_map f ts) → AllOf P xs × AllOf P (flat_map f ts)

@@ -1,5 +1,5 @@
 -- What stands below what, in the tree of a chart.
-use Rattle.std.proofs.Common.{◌≡◌, ◌⊎◌, inl, inr, ℕ, ◌+◌, ◌<◌, ◌≤◌, ◌&&◌, nat_eq, not, zero, suc, Bool, true, false, cond, List, [], ◌∷◌, length, filter, get_or, refl, arith, ap, ap₂, sym, subst, ◌∙◌}
+use Rattle.std.proofs.Common.{◌≡◌, ◌⊎◌, inl, inr, ℕ, ◌+◌, ◌<◌, ◌&&◌, nat_eq, not, suc, Bool, true, false, cond, List, [], ◌∷◌, length, filter, get_or, refl, arith, ap, ap₂, subst, ◌∙◌}
 use Rattle.std.proofs.lemmas.Bool.{cases_order}
 use Rattle.std.proofs.lemmas.Bool.Decides.{nat_tests}
 use Rattle.std.proofs.lemmas.Slice.Eq.{bytes_eq-Decides}
@@ -8,8 +8,7 @@ use Rattle.sc_law.specs.Nodes.{Path, is_root, is_same, leads_on, parent}
 use Rattle.sc_law.specs.Tree.{is_below, numbers_where, path_of, state_paths}
 use Rattle.sc_law.specs.Kinds.{is_history}
 use Rattle.sc_law.specs.Configurations.{children}
-use Rattle.sc_tables.specs.Nearest.{path_at}
-use Rattle.sc_tables.proofs.Leads.{leads-begin, leads-from, leads-on, leads-shorter, parent-leads}
+use Rattle.sc_tables.proofs.Leads.{leads-begin, leads-from, leads-on, parent-leads}
 use Rattle.sc_tables.proofs.LookUps.{path-is}
 use Rattle.sc_tables.proofs.Order.{begins, begins-fork}
 use Rattle.std.specs.List.{AllByRecursion as AllOf}
@@ -31,9 +30,9 @@ pub numbers-hold : (P : ℕ → Type 0) (test : Path → Bool) (s : ℕ) (ps : L
 numbers-hold P test s [] h = tt
 numbers-hold P test s (p ∷ ps) h =
     by (test p) refl (numbers-hold P test (s + 1) ps (λ k l t. subst P (omega arith) (h (suc k) (omega arith) t))) where
-  by : (v : Bool) → test p ≡ v → AllOf P (numbers_where test (s + 1) ps) → AllOf P (cond v (s ∷ numbers_where test (s + 1) ps) (numbers_where test (s + 1) ps))
-  by true e rest = (subst P (omega arith) (h 0 (omega arith) e), rest)
-  by false e rest = rest
+      by : (v : Bool) → test p ≡ v → AllOf P (numbers_where test (s + 1) ps) → AllOf P (cond v (s ∷ numbers_where test (s + 1) ps) (numbers_where test (s + 1) ps))
+      by true e rest = (subst P (omega arith) (h 0 (omega arith) e), rest)
+      by false e rest = rest
 
 -- what is kept of a list passes, and has what each item has
 pub filter-hold : {A : Type 0} (P : A → Type 0) (test : A → Bool) (xs : List A) → AllOf P xs → AllOf (λ x. (test x ≡ true) × P x) (filter test xs)
@@ -65,11 +64,11 @@ children-below c s =
     (filter-hold (λ kid. is_below c kid s ≡ true) (λ kid. not (is_history c kid)) _
     (numbers-hold (λ kid. is_below c kid s ≡ true) (λ path. not (is_root path) && is_same (parent path) (path_of c s)) 0 (state_paths c) by))
   where
-  by : (k : ℕ) → k < length (state_paths c)
-      → (not (is_root (get_or (state_paths c) k [])) && is_same (parent (get_or (state_paths c) k [])) (path_of c s)) ≡ true
-      → is_below c (0 + k) s ≡ true
-  by k l h = subst (λ n. is_below c n s ≡ true) (omega arith)
-      (ap (leads_on (path_of c s)) (path-is c k) ∙ child-leads (get_or (state_paths c) k []) (path_of c s) h)
+    by : (k : ℕ) → k < length (state_paths c)
+        → (not (is_root (get_or (state_paths c) k [])) && is_same (parent (get_or (state_paths c) k [])) (path_of c s)) ≡ true
+        → is_below c (0 + k) s ≡ true
+    by k l h = subst (λ n. is_below c n s ≡ true) (omega arith)
+        (ap (leads_on (path_of c s)) (path-is c k) ∙ child-leads (get_or (state_paths c) k []) (path_of c s) h)
 
 -- what stands below what, in any chart
 pub is-tree : (c : Chart) → IsTree c

@@ -1,13 +1,14 @@
 -- The states that several transitions of a legal chart enter are those that each enters alone.
-use Rattle.std.proofs.Common.{◌≡◌, ℕ, ◌<◌, suc, List, [], ◌∷◌, length, map, refl, arith, ap, sym, ◌∙◌}
-use Rattle.std.specs.List.{AllByRecursion as AllOf, AllPairs}
+use Rattle.std.proofs.Common.{◌≡◌, ℕ, suc, List, [], ◌∷◌, map, refl, arith, ap, ◌∙◌}
+use Rattle.std.specs.List.{AllPairs}
 use Rattle.sc_base.specs.Ascending.{joined}
 use Rattle.sc_base.specs.Folds.{each}
 use Rattle.sc_types.specs.declared.chart.Chart.{Chart}
 use Rattle.sc_law.specs.Sets.{Histories}
 use Rattle.sc_law.specs.Entry.{entry}
 use Rattle.sc_law.specs.Fitting.{IsRecorded}
-use Rattle.sc_sets.specs.Union.{AreTaken, HaveApart, IsAboveTargets, alone, united}
+use Rattle.sc_sets.specs.Union.{alone, united}
+use Rattle.sc_sets.proofs.Union.Conditions.{AreTaken, HaveApart, IsAboveTargets}
 use Rattle.sc_sets.proofs.Union.Alone.{FineTargets, alone as alone_entry, entry-union}
 use Rattle.sc_sets.proofs.Union.Apart.{AllApart, are-apart}
 use Rattle.sc_sets.proofs.Union.Below.{all-of-map}
@@ -16,9 +17,10 @@ use Rattle.sc_sets.proofs.Union.Forks.{is-tree}
 
 all-apart : (c : Chart) (before : Histories) (ts : List ℕ) → AllPairs (HaveApart c before) ts → AllApart c before ts
 all-apart c before [] h = tt
-all-apart c before (t ∷ ts) h =
-    (from-all (HaveApart c before t) ts (λ k d l. h 0 (suc k) d (omega arith) (omega arith)),
-    all-apart c before ts (λ i j d l m. h (suc i) (suc j) d (omega arith) (omega arith)))
+all-apart c before (t ∷ ts) h = (
+  from-all (HaveApart c before t) ts (λ k d l. h 0 (suc k) d (omega arith) (omega arith)),
+  all-apart c before ts (λ i j d l m. h (suc i) (suc j) d (omega arith) (omega arith)),
+)
 
 alone-is : (c : Chart) (before h : Histories) (t : ℕ) → alone_entry c before h t ≡ alone c before h t
 unfolding entry

@@ -1,9 +1,9 @@
 -- The default targets of a legal chart stand below what they are the defaults of.
-use Rattle.std.proofs.Common.{◌≡◌, ◌⊎◌, inl, inr, ℕ, ◌+◌, ◌<◌, ◌≤◌, ◌&&◌, ◌||◌, not, zero, suc, Bool, true, false, cond, Option, Some, None, option_and_then, unwrap_or, List, [], ◌∷◌, ◌++◌, ◌-◌, ◌==◌, codes, length, length-append, filter, get_or, slice_get, take, refl, arith, rules, ap, sym, subst, ◌∙◌}
+use Rattle.std.proofs.Common.{◌≡◌, inl, inr, ℕ, ◌<◌, ◌&&◌, ◌||◌, not, suc, Bool, true, false, cond, Option, Some, None, option_and_then, unwrap_or, List, [], ◌∷◌, ◌++◌, ◌-◌, ◌==◌, codes, length, length-append, slice_get, take, refl, arith, rules, ap, sym, subst, ◌∙◌}
 use Rattle.std.proofs.lemmas.Bool.{cases_lt}
 use Rattle.std.proofs.lemmas.Bool.Decides.{nat_tests}
 use Rattle.std.proofs.lemmas.List.{get_or_past}
-use Rattle.std.specs.List.{list_all, list_any}
+use Rattle.std.specs.List.{list_any}
 use Rattle.std.specs.Option.{option_map_or}
 use Rattle.sc_types.specs.Attributes.{has, is_text_at, words_at}
 use Rattle.sc_types.specs.Elements.{is_numbered}
@@ -16,7 +16,7 @@ use Rattle.sc_types.specs.declared.state_kind.StateKind.TheVariants.{Atomic, Com
 use Rattle.sc_law.specs.Nodes.{Path, element, is_root, is_tag, kids, leads_on, node_at, parent, tag_of}
 use Rattle.sc_law.specs.Tree.{has_states, is_below, path_of, state_count, state_element, state_paths}
 use Rattle.sc_law.specs.Kinds.{is_compound, is_history, is_history_kind, is_kind, kind_at}
-use Rattle.sc_law.specs.Legality.{are_bad_defaults, are_bad_recorded, are_below, default_ids, is_bad_element, is_bad_history, is_bad_initial, is_bad_member, is_bad_recorded, is_state_or_parallel, legal_fault, targets}
+use Rattle.sc_law.specs.Legality.{are_bad_defaults, are_bad_recorded, are_below, default_ids, is_bad_element, is_bad_initial, is_bad_member, is_bad_recorded, is_state_or_parallel, legal_fault, targets}
 use Rattle.sc_law.specs.Configurations.{children, defaults, defaults_at, has_initial, initial_ids, named, state_defaults}
 use Rattle.sc_tables.proofs.LegalRoots.{root_not_numbered}
 use Rattle.sc_tables.proofs.LookUps.{path-is}
@@ -40,7 +40,8 @@ none-of test (x ∷ xs) h = let t = neither (test x) (list_any test xs) h in (t.
 
 -- ---- tags
 
-history-tag : (n : Node) (t : Tag) → option_map_or is_history_kind (kind_at n t) false ≡ true → t ≡ tag.History
+-- the tag of a history
+pub history-tag : (n : Node) (t : Tag) → option_map_or is_history_kind (kind_at n t) false ≡ true → t ≡ tag.History
 history-tag n tag.History h = refl
 history-tag n tag.State h = by (has_states n) h where
   by : (v : Bool) → is_history_kind (cond v Compound Atomic) ≡ true → tag.State ≡ tag.History
@@ -96,11 +97,12 @@ history-defaults c t legal l is =
     (λ u r. (r.0, (no-history (state_element c u) (tag_of (state_element c u)) r.1.0, r.1.1)))
     (named-targets c (IsRecall c (path_of c t)) (unwrap_or (default_ids (state_element c t)) []) (recalls c (path_of c t) (default_ids (state_element c t)) sound)))
   where
-  here : tag_of (state_element c t) ≡ tag.History
-  here = history-tag (state_element c t) (tag_of (state_element c t)) is
-  sound : option_map_or (λ ids. are_bad_recorded c (path_of c t) (targets c ids)) (default_ids (state_element c t)) true ≡ false
-  sound = subst (λ (g : Tag). (is_tag tag.History g && option_map_or (λ ids. are_bad_recorded c (path_of c t) (targets c ids)) (default_ids (state_element c t)) true) ≡ false)
-      here (legal-state c t legal l).history
+    here : tag_of (state_element c t) ≡ tag.History
+    here = history-tag (state_element c t) (tag_of (state_element c t)) is
+
+    sound : option_map_or (λ ids. are_bad_recorded c (path_of c t) (targets c ids)) (default_ids (state_element c t)) true ≡ false
+    sound = subst (λ (g : Tag). (is_tag tag.History g && option_map_or (λ ids. are_bad_recorded c (path_of c t) (targets c ids)) (default_ids (state_element c t)) true) ≡ false)
+        here (legal-state c t legal l).history
 
 -- ---- defaults of compound states
 
@@ -140,7 +142,7 @@ element-below c q (Some ids) some state h =
 
 -- ---- child elements
 
-kid-at : (m n kid : Node) (p : Path) (k : ℕ) → node_at m p ≡ Some n → slice_get (kids n) k ≡ Some kid
+pub kid-at : (m n kid : Node) (p : Path) (k : ℕ) → node_at m p ≡ Some n → slice_get (kids n) k ≡ Some kid
     → node_at m (p ++ k ∷ []) ≡ Some kid
 kid-at m n kid [] k at is =
     let e : m ≡ n = cc in
@@ -190,9 +192,9 @@ initial-below c p n legal at is state found =
     let is_kid : element c (p ++ k ∷ []) ≡ kid = ap (λ (o : Option Node). unwrap_or o c.root) at_kid in
     let q = p ++ k ∷ [] in
     let bad = last-initial (is_root q && not (has_states (element c q))) (has attribute.Initial (element c q) && is_bad_member c q (element c q) (tag_of (element c q))) _
-        (legal-path c (p ++ k ∷ []) kid legal at_kid).initial in
+    (legal-path c (p ++ k ∷ []) kid legal at_kid).initial in
     let fine = and-true (is_tag tag.Initial (tag_of (element c (p ++ k ∷ [])))) (is_bad_element c (p ++ k ∷ [])) bad
-        (ap (λ (m : Node). is_tag tag.Initial (tag_of m)) is_kid ∙ found.1.1.1.0) in
+    (ap (λ (m : Node). is_tag tag.Initial (tag_of m)) is_kid ∙ found.1.1.1.0) in
     let above : tag_of (element c (parent (p ++ k ∷ []))) ≡ tag.State = ap (λ q. tag_of (element c q)) (parent-of-kid p k) ∙ ap tag_of is ∙ state in
     let all = element-below c (p ++ k ∷ []) (default_ids (element c (p ++ k ∷ []))) (kid-no-root p k) above fine in
     subst (λ q. AllOf (λ r. leads_on q r ≡ true) (targets c (initial_ids (kids n)))) (parent-of-kid p k)
@@ -210,10 +212,10 @@ compound-within : (c : Chart) (s : ℕ) → legal_fault c ≡ None → tag_of (s
 compound-within c s legal state = elim (cases_lt s (state_count c)) [
   | inl l ↦ l
   | inr past ↦
-    let root : path_of c s ≡ [] = path-is c s ∙ get_or_past (state_paths c) s [] (omega arith) in
-    let tagged : tag_of c.root ≡ tag.State = sym (ap (λ p. tag_of (element c p)) root) ∙ state in
-    let no = root_not_numbered c legal in
-    absurd (let yes : is_numbered (tag_of c.root) ≡ true = ap is_numbered tagged in cc)
+      let root : path_of c s ≡ [] = path-is c s ∙ get_or_past (state_paths c) s [] (omega arith) in
+      let tagged : tag_of c.root ≡ tag.State = sym (ap (λ p. tag_of (element c p)) root) ∙ state in
+      let no = root_not_numbered c legal in
+      absurd (let yes : is_numbered (tag_of c.root) ≡ true = ap is_numbered tagged in cc)
 ]
 
 state-defaults : (c : Chart) (s : ℕ) (n : Node) → legal_fault c ≡ None → node_at c.root (path_of c s) ≡ Some n → element c (path_of c s) ≡ n
@@ -221,12 +223,14 @@ state-defaults : (c : Chart) (s : ℕ) (n : Node) → legal_fault c ≡ None →
 state-defaults c s n legal at is state sound = by (has attribute.Initial n) (has_initial n) refl refl where
   on : (ids : List (List ℕ)) → AllOf (λ q. leads_on (path_of c s) q ≡ true) (targets c ids) → AllOf (λ u. is_below c u s ≡ true) (named c ids)
   on ids h = all-of-map _ _ (named c ids) (λ u t. t.1) (named-targets c (λ q. leads_on (path_of c s) q ≡ true) ids h)
+
   bad : has attribute.Initial n ≡ true → is_bad_member c (path_of c s) n tag.State ≡ false
   bad t =
       let p = path_of c s in
       let it = both-initial (is_root p && not (has_states (element c p))) (has attribute.Initial (element c p))
-          (is_bad_member c p (element c p) (tag_of (element c p))) _ sound (ap (has attribute.Initial) is ∙ t) in
+      (is_bad_member c p (element c p) (tag_of (element c p))) _ sound (ap (has attribute.Initial) is ∙ t) in
       sym (ap (λ (m : Node). is_bad_member c p m (tag_of m)) is ∙ ap (is_bad_member c p n) state) ∙ it
+
   by : (v w : Bool) → has attribute.Initial n ≡ v → has_initial n ≡ w
       → AllOf (λ u. is_below c u s ≡ true) (cond v (named c (words_at attribute.Initial n)) (cond w (named c (initial_ids (kids n))) (take 1 (children c s))))
   by true w e f = on (words_at attribute.Initial n) (member-below c (path_of c s) n (bad e))

@@ -1,5 +1,5 @@
 -- What a legal chart has at each of its elements.
-use Rattle.std.proofs.Common.{◌≡◌, ℕ, ◌+◌, ◌<◌, ◌&&◌, ◌||◌, not, zero, suc, Bool, true, false, cond, Option, Some, None, option_map, option_and_then, unwrap_or, List, [], ◌∷◌, ◌++◌, append_assoc, append-nil, length, map, find, slice_get, refl, arith, rules, ap, sym, subst, ◌∙◌}
+use Rattle.std.proofs.Common.{◌≡◌, ℕ, ◌+◌, ◌<◌, zero, suc, Bool, true, false, cond, Option, Some, None, option_map, option_and_then, unwrap_or, List, [], ◌∷◌, ◌++◌, append_assoc, append-nil, map, find, slice_get, refl, arith, ap, sym, subst}
 use Rattle.std.specs.Option.{option_map_or}
 use Rattle.sc_types.specs.ChartTexts.{fault}
 use Rattle.sc_types.specs.Elements.{is_numbered}
@@ -7,15 +7,16 @@ use Rattle.sc_types.specs.declared.chart.Chart.{Chart}
 use Rattle.sc_types.specs.declared.chart.ChartFault.{ChartFault}
 use Rattle.sc_types.specs.declared.chart.Node.{Node}
 use Rattle.sc_law.specs.Nodes.{Path, element, elements, elements_from, kids, node_at, tag_of}
-use Rattle.sc_law.specs.Tree.{path_of, state_count, state_paths}
-use Rattle.sc_law.specs.Legality.{fault_at, first_fault, is_bad_history, is_bad_initial, legal_fault, number_at, tests}
+use Rattle.sc_law.specs.Tree.{path_of, state_count}
+use Rattle.sc_law.specs.Legality.{fault_at, first_fault, has_unknown_target, is_bad_history, is_bad_initial, legal_fault, number_at, tests}
 use Rattle.sc_law.proofs.PathLemmas.{elements_from_node, paths_of_kids}
 use Rattle.sc_tables.proofs.LegalRoots.{root_not_numbered}
 use Rattle.sc_tables.proofs.LookUps.{numbered-at, path-is}
 use Rattle.std.specs.List.{AllByRecursion as AllOf}
 
--- an element whose defaults are as they should be
+-- an element whose targets are known, and whose defaults are as they should be
 pub record IsSound (c : Chart) (p : Path) : Type 0 where
+  pub known : has_unknown_target c p ≡ false
   pub initial : is_bad_initial c p ≡ false
   pub history : is_bad_history c p ≡ false
 
@@ -44,7 +45,7 @@ sound-at : (c : Chart) (p : Path) → fault_at c p ≡ None → IsSound c p
 sound-at c p h =
     let number = no-number (number_at c p) p h in
     let each = none-found (λ (t : ℕ × (Chart → Path → Bool)). t.1 c p) tests (no-test _ number) in
-    record { initial = each.1.1.0; history = each.1.1.1.0 }
+    record { known = each.1.0; initial = each.1.1.0; history = each.1.1.1.0 }
 
 none-first : (o later : Option ChartFault) → option_map_or Some o later ≡ None → (o ≡ None) × (later ≡ None)
 none-first None later h = (refl, h)
@@ -84,6 +85,7 @@ element-has P n m path (k ∷ q) is h = by (slice_get (kids n) k) refl is (λ ki
   below : (kid : Node) → slice_get (kids n) k ≡ Some kid → AllOf P (elements_from kid (path ++ k ∷ []))
   below kid e = subst (λ i. AllOf P (elements_from kid (path ++ i ∷ []))) (omega arith)
       (all-kid P path 0 k (kids n) kid e (subst (AllOf P) (elements_from_node n path) h).1)
+
   by : (o : Option Node) → slice_get (kids n) k ≡ o → option_and_then (λ kid. node_at kid q) o ≡ Some m
       → ((kid : Node) → slice_get (kids n) k ≡ Some kid → node_at kid q ≡ Some m → P ((path ++ k ∷ []) ++ q)) → P (path ++ k ∷ q)
   by None e at go = absurd (cc)

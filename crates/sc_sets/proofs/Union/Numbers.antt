@@ -1,5 +1,5 @@
 -- Numbers put into sets: in any order, and once or more.
-use Rattle.std.proofs.Common.{◌≡◌, ◌⊎◌, inl, inr, ℕ, ◌<◌, ◌==◌, ◌||◌, nat_lt, Bool, true, false, cond, List, [], ◌∷◌, refl, arith, ap, sym, ◌∙◌}
+use Rattle.std.proofs.Common.{◌≡◌, inl, inr, ℕ, ◌<◌, ◌==◌, ◌||◌, nat_lt, Bool, true, false, List, [], ◌∷◌, refl, arith, ap, sym, ◌∙◌}
 use Rattle.std.proofs.lemmas.Bool.{cases_order}
 use Rattle.std.proofs.lemmas.Bool.Decides.{nat_tests}
 use Rattle.std.specs.List.{list_any}
@@ -57,7 +57,7 @@ swap-less m n (x ∷ xs) l = elim (cases_order n x) [
 pub with-swap : (m n : ℕ) (xs : List ℕ) → with_number m (with_number n xs) ≡ with_number n (with_number m xs)
 with-swap m n xs = elim (cases_order m n) [
   | inl e ↦ ap (λ k. with_number k (with_number n xs)) e ∙ ap (λ k. with_number n (with_number k xs)) (sym e)
-  | inr o ↦ elim o [ | inl below ↦ swap-less m n xs below | inr above ↦ sym (swap-less n m xs above) ]
+  | inr o ↦ elim o [ inl below ↦ swap-less m n xs below | inr above ↦ sym (swap-less n m xs above) ]
 ]
 
 -- a number may be added before or after the sets are joined

@@ -1,13 +1,13 @@
 -- The parent of a state or history is the nearest state above it.
-use Rattle.std.proofs.Common.{◌≡◌, ◌⊎◌, inl, inr, ℕ, ◌+◌, ◌-◌, ◌<◌, ◌≤◌, zero, suc, Bool, true, false, Option, Some, None, List, [], ◌∷◌, length, reverse, get_or, unwrap_or, refl, arith, ap, sym, subst, ◌∙◌}
+use Rattle.std.proofs.Common.{◌≡◌, ◌⊎◌, inl, inr, ℕ, ◌+◌, ◌<◌, ◌≤◌, zero, suc, Bool, true, false, Option, Some, None, List, [], ◌∷◌, length, reverse, unwrap_or, refl, arith, ap, sym, ◌∙◌}
 use Rattle.std.proofs.lemmas.Bool.{cases_lt, cases_order}
 use Rattle.std.proofs.lemmas.List.{get_or_past}
 use Rattle.sc_types.specs.declared.chart.Chart.{Chart}
 use Rattle.sc_law.specs.Nodes.{Path, leads_on, parent}
-use Rattle.sc_law.specs.Tree.{ancestors, is_below, path_of, root, state_count, state_paths}
+use Rattle.sc_law.specs.Tree.{is_below, path_of, root, state_count, state_paths}
 use Rattle.sc_law.specs.Configurations.{first_or, parent_of}
 use Rattle.sc_tables.specs.Nearest.{IsNearest, NoneLeads, path_at}
-use Rattle.sc_tables.specs.Preorder.{IsPreorder, comes_before}
+use Rattle.sc_tables.specs.Preorder.{IsPreorder}
 use Rattle.sc_tables.proofs.Above.{above_numbers, nearest-first}
 use Rattle.sc_tables.proofs.Leads.{leads-begin, leads-between, leads-from, leads-not-back, leads-not-same, leads-shorter, parent-begins, parent-length}
 use Rattle.sc_tables.proofs.LookUps.{path-is}
@@ -23,6 +23,7 @@ nearest paths (suc n) path = by (leads_on (path_at paths n) path) refl (nearest 
     | inl l ↦ earlier k a l
     | inr g ↦ (let same : k ≡ n = omega arith in ap (λ i. leads_on (path_at paths i) path) same ∙ e)
   ]
+
   by : (v : Bool) → leads_on (path_at paths n) path ≡ v → ((o : Option ℕ) × IsNearest paths n path o) → (o : Option ℕ) × IsNearest paths (suc n) path o
   by true e rest = (Some n, (omega arith, e, λ k a u. absurd (omega arith)))
   by false e (None, is) = (None, none 0 e is)
@@ -36,11 +37,13 @@ pub record HasParent (c : Chart) (t : ℕ) (o : Option ℕ) : Type 0 where
 pub parent-near : (c : Chart) (t : ℕ) → t < state_count c → (o : Option ℕ) × HasParent c t o
 parent-near c t l =
     let found = nearest (state_paths c) t (path_at (state_paths c) t) in
-    let first = nearest-first (state_paths c) t (root c) found.0 (states_ordered c) l found.1 in
-    (found.0, record {
-      near = found.1;
-      same = ap (λ p. first_or (root c) (reverse (above_numbers (state_paths c) p))) (path-is c t) ∙ first;
-    })
+    let first = nearest-first (state_paths c) t (root c) found.0 (states_ordered c) l found.1 in (
+      found.0,
+      record {
+        near = found.1;
+        same = ap (λ p. first_or (root c) (reverse (above_numbers (state_paths c) p))) (path-is c t) ∙ first;
+      },
+    )
 
 pub past-root : (c : Chart) (s : ℕ) → state_count c ≤ s → path_of c s ≡ []
 past-root c s l = path-is c s ∙ get_or_past (state_paths c) s [] l
@@ -69,14 +72,20 @@ above-paths : (paths : List Path) (s t : ℕ) (o : Option ℕ) → IsPreorder pa
     → (p : ℕ) × ((o ≡ Some p) × ((leads_on (path_at paths s) (path_at paths p) ≡ true) ⊎ (path_at paths p ≡ path_at paths s)))
 above-paths paths s t None order l m h near =
     absurd (let no = near s (omega arith) (earlier paths s t order l m h) in cc)
-above-paths paths s t (Some p) order l m h near = (p, (refl, elim (cases_order s p) [
-  | inl e ↦ inr (sym (ap (path_at paths) e))
-  | inr o ↦ elim o [
-    | inl below ↦ inl (leads-between (path_at paths s) (path_at paths p) (path_at paths t) (order.pairs s p [] below (omega (arith, near.0)))
-      (order.pairs p t [] near.0 m) h)
-    | inr above ↦ absurd (let no = near.2 s (omega arith) (earlier paths s t order l m h) in cc)
-  ]
-]))
+above-paths paths s t (Some p) order l m h near = (
+  p,
+  (
+    refl,
+    elim (cases_order s p) [
+      | inl e ↦ inr (sym (ap (path_at paths) e))
+      | inr o ↦ elim o [
+        | inl below ↦ inl (leads-between (path_at paths s) (path_at paths p) (path_at paths t) (order.pairs s p [] below (omega (arith, near.0)))
+            (order.pairs p t [] near.0 m) h)
+        | inr above ↦ absurd (let no = near.2 s (omega arith) (earlier paths s t order l m h) in cc)
+      ]
+    ],
+  ),
+)
 
 -- a state above another is its parent, or above its parent
 pub at-parent : (c : Chart) (s t : ℕ) → t < state_count c → is_below c t s ≡ true
@@ -89,14 +98,15 @@ at-parent c s t l h = elim (cases_lt s (state_count c)) [
       → (is_below c (parent_of c t) s ≡ true) ⊎ (path_of c (parent_of c t) ≡ path_of c s)
   outer e (inl leads) = inl (ap (λ p. leads_on p (path_of c (parent_of c t))) e ∙ leads)
   outer e (inr same) = inr (same ∙ sym e)
+
   inner : s < state_count c → (is_below c (parent_of c t) s ≡ true) ⊎ (path_of c (parent_of c t) ≡ path_of c s)
   inner m =
       let has = parent-near c t l in
       let leads : leads_on (path_at (state_paths c) s) (path_at (state_paths c) t) ≡ true =
-          sym (ap (λ p. leads_on p (path_of c t)) (path-is c s) ∙ ap (leads_on (path_at (state_paths c) s)) (path-is c t)) ∙ h in
+      sym (ap (λ p. leads_on p (path_of c t)) (path-is c s) ∙ ap (leads_on (path_at (state_paths c) s)) (path-is c t)) ∙ h in
       let found = above-paths (state_paths c) s t has.0 (states_ordered c) m l leads has.1.near in
       let is : path_of c (parent_of c t) ≡ path_at (state_paths c) found.0 =
-          ap (path_of c) (has.1.same ∙ ap (λ (o : Option ℕ). unwrap_or o (root c)) found.1.0) ∙ path-is c found.0 in
+      ap (path_of c) (has.1.same ∙ ap (λ (o : Option ℕ). unwrap_or o (root c)) found.1.0) ∙ path-is c found.0 in
       elim found.1.1 [
         | inl below ↦ inl (ap (λ p. leads_on p (path_of c (parent_of c t))) (path-is c s) ∙ ap (leads_on (path_at (state_paths c) s)) is ∙ below)
         | inr same ↦ inr (is ∙ same ∙ sym (path-is c s))
@@ -107,12 +117,13 @@ pub parent-above-element : (c : Chart) (t : ℕ) → t < state_count c → begin
 parent-above-element c t l = by has.0 has.1.near has.1.same where
   has : (o : Option ℕ) × HasParent c t o
   has = parent-near c t l
+
   by : (o : Option ℕ) → IsNearest (state_paths c) t (path_at (state_paths c) t) o → parent_of c t ≡ unwrap_or o (root c)
       → begins (path_of c (parent_of c t)) (parent (path_of c t)) ≡ true
   by None near same = ap (λ p. begins p (parent (path_of c t))) (ap (path_of c) same ∙ past-root c (root c) (omega arith))
   by (Some p) near same =
       let leads : leads_on (path_of c p) (path_of c t) ≡ true =
-          ap (λ q. leads_on q (path_of c t)) (path-is c p) ∙ ap (leads_on (path_at (state_paths c) p)) (path-is c t) ∙ near.1 in
+      ap (λ q. leads_on q (path_of c t)) (path-is c p) ∙ ap (leads_on (path_at (state_paths c) p)) (path-is c t) ∙ near.1 in
       let short = leads-shorter (path_of c p) (path_of c t) leads in
       let long = parent-length (path_of c t) in
       ap (λ s. begins (path_of c s) (parent (path_of c t))) same
