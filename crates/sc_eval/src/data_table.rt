@@ -66,6 +66,13 @@ impl DataTable {
         Sequence::from_vec(self.rows)
     }
 
+    /// The data in order of declaration.
+    pub fn rows(&self) -> &[(PlainName, Option<Value>)]
+        ensures { result.now ≡ self.now }
+    {
+        self.rows.as_slice()
+    }
+
     /// The value of a datum, where it is declared and set.
     pub fn get(&self, name: &[u8]) -> Option<&Value>
         ensures { option_copied result
