@@ -12,8 +12,8 @@ use sc_base::Sequence;
 use sc_types::{EvalFault, Expr, Op, Plain, Value};
 use std::alloc::Global;
 
-/// The value of an expression, or the first fault from left to right. An expression of 256 levels takes less than
-/// 256 KiB of stack.
+/// The value of an expression, or the first fault from left to right. It calls itself as deep as the expression goes,
+/// which has at most 256 levels.
 #[cycle(eval)]
 #[tactic(auto, using(crate::proofs::Layers::value_layers))]
 pub fn eval(alloc: Global, env: &Env, e: &Expr) -> Result<Value, EvalFault>

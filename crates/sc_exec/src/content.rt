@@ -20,7 +20,7 @@ use sc_types::{Attribute, Node, Tag, Value};
 use std::alloc::Global;
 
 /// Runs a block of executable content. A fault stops the rest of it, and `error.execution` is enqueued. Out of memory,
-/// the run stands at some point of the block. Content of 40 levels takes less than 256 KiB of stack. SCXML 3.12.2, 4.1.
+/// the run stands at some point of the block. It calls itself as deep as the content goes. SCXML 3.12.2, 4.1.
 #[tactic(auto, unfolding(sc_law::specs::Content::run_block, sc_law::specs::Content::exec))]
 pub fn run_block(alloc: Global, run: &mut Running, block: &[Node]) -> Result<(), NoMemory>
     requires { HasIds run.old.env }
