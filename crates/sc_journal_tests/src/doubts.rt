@@ -1,78 +1,104 @@
-// Entries that a fault left in doubt, and how they are settled.
-use crate::recipes::{TICK, append, held, made};
-use sc_dev::Failed;
-use sc_journal::{AppendFault, Journal};
+// Entries that a fault left in doubt, and how they are settled. Making and opening take the calls 1 to 7, and the
+// first entry 8 to 11.
+use crate::steps::{Outcome, Step, disk};
+use std::alloc::Global;
 use std::test::Fail;
 
-// The device calls of an entry after the seven of making and opening: 8 to 11.
 #[test]
 fn an_entry_in_doubt_is_settled(rt: HostRuntime) -> Result<(), Fail> {
     let alloc = rt.alloc();
-    let Some(mut journal) = made(alloc, 40, &[11])? else {
-        return Err(Fail::from("no journal"));
-    };
-    assert_eq!(rt; append(&mut journal, TICK), Some(Err(AppendFault::Failed)));
-    assert!(rt; journal.in_doubt());
-    assert_eq!(rt; append(&mut journal, TICK), None);
-    assert_eq!(rt; journal.settle(), Ok(()));
-    assert!(rt; !journal.in_doubt());
-    assert_eq!(rt; journal.next_number(), 1);
-    assert_eq!(rt; append(&mut journal, b"new"), Some(Ok(())));
-    let Some(all) = held(alloc, journal.into_disk())? else {
-        return Err(Fail::from("no journal"));
-    };
-    assert_eq!(rt; all.slice(), b"new".as_slice());
-    Ok(())
-}
-
-#[test]
-fn a_failed_write_of_the_entry_leaves_no_doubt(rt: HostRuntime) -> Result<(), Fail> {
-    let alloc = rt.alloc();
-    for failing in 8..10u64 {
-        let Some(mut journal) = made(alloc, 40, &[failing])? else {
-            return Err(Fail::from("no journal"));
-        };
-        assert_eq!(rt; append(&mut journal, TICK), Some(Err(AppendFault::Failed)));
-        assert!(rt; !journal.in_doubt());
-        assert_eq!(rt; append(&mut journal, TICK), Some(Ok(())));
-    }
+    let steps = [
+        Step::Create,
+        Step::Open,
+        Step::Append(b"lost"),
+        Step::Append(b"lost"),
+        Step::Settle,
+        Step::Append(b"new"),
+        Step::Close,
+        Step::Open,
+    ];
+    let outcomes = disk(alloc, 100, &[11]).after(alloc, &steps)?;
+    let want = [
+        Outcome::Done,
+        Outcome::Opened(1, 0, 0),
+        Outcome::Failed,
+        Outcome::InDoubt,
+        Outcome::Done,
+        Outcome::Done,
+        Outcome::Done,
+        Outcome::Opened(1, 1, 3),
+    ];
+    assert_eq!(rt; outcomes.as_slice(), want.as_slice());
     Ok(())
 }
 
 #[test]
 fn two_doubts_in_a_row(rt: HostRuntime) -> Result<(), Fail> {
     let alloc = rt.alloc();
-    let Some(mut journal) = made(alloc, 40, &[10, 11, 12, 17])? else {
-        return Err(Fail::from("no journal"));
-    };
-    assert_eq!(rt; append(&mut journal, TICK), Some(Err(AppendFault::Failed)));
-    assert_eq!(rt; journal.settle(), Err(Failed));
-    assert_eq!(rt; journal.settle(), Err(Failed));
-    assert!(rt; journal.in_doubt());
-    assert_eq!(rt; journal.settle(), Ok(()));
-    assert_eq!(rt; append(&mut journal, b"a"), Some(Err(AppendFault::Failed)));
-    assert!(rt; journal.in_doubt());
-    assert_eq!(rt; journal.settle(), Ok(()));
-    assert_eq!(rt; append(&mut journal, b"b"), Some(Ok(())));
-    let Some(all) = held(alloc, journal.into_disk())? else {
-        return Err(Fail::from("no journal"));
-    };
-    assert_eq!(rt; all.slice(), b"b".as_slice());
+    let steps = [
+        Step::Create,
+        Step::Open,
+        Step::Append(b"one"),
+        Step::Settle,
+        Step::Settle,
+        Step::Settle,
+        Step::Append(b"two"),
+        Step::Settle,
+        Step::Append(b"three"),
+        Step::Close,
+        Step::Open,
+    ];
+    let outcomes = disk(alloc, 100, &[10, 11, 12, 17]).after(alloc, &steps)?;
+    let want = [
+        Outcome::Done,
+        Outcome::Opened(1, 0, 0),
+        Outcome::Failed,
+        Outcome::Failed,
+        Outcome::Failed,
+        Outcome::Done,
+        Outcome::Failed,
+        Outcome::Done,
+        Outcome::Done,
+        Outcome::Done,
+        Outcome::Opened(1, 1, 5),
+    ];
+    assert_eq!(rt; outcomes.as_slice(), want.as_slice());
     Ok(())
 }
 
-// What a stop leaves of an entry in doubt hangs on its gate.
 #[test]
-fn a_doubt_may_be_found_or_not(rt: HostRuntime) -> Result<(), Fail> {
+fn where_nothing_is_in_doubt_settling_calls_no_device(rt: HostRuntime) -> Result<(), Fail> {
     let alloc = rt.alloc();
-    let Some(mut journal) = made(alloc, 40, &[10])? else {
-        return Err(Fail::from("no journal"));
-    };
-    assert_eq!(rt; append(&mut journal, TICK), Some(Err(AppendFault::Failed)));
-    let disk = journal.into_disk();
-    let found = held(alloc, disk.crash(b"\x01", 10)?)?;
-    let lost = held(alloc, disk.crash(b"\x00", 10)?)?;
-    assert_eq!(rt; found.map(|all| all.len()), Some(TICK.len()));
-    assert_eq!(rt; lost.map(|all| all.len()), Some(0));
+    let steps = [Step::Create, Step::Open, Step::Settle, Step::Moment];
+    let outcomes = disk(alloc, 7, &[]).after(alloc, &steps)?;
+    let want = [
+        Outcome::Done,
+        Outcome::Opened(1, 0, 0),
+        Outcome::Done,
+        Outcome::Number(7),
+    ];
+    assert_eq!(rt; outcomes.as_slice(), want.as_slice());
     Ok(())
+}
+
+// What is opened where the write of the gate failed and a stop left these bytes there.
+fn found(alloc: Global, fill: &[u8]) -> Outcome {
+    disk(alloc, 100, &[10]).last(
+        alloc,
+        &[
+            Step::Create,
+            Step::Open,
+            Step::Append(b"doubtful"),
+            Step::Close,
+            Step::Stop(fill),
+            Step::Open,
+        ],
+    )
+}
+
+#[test]
+fn a_stop_leaves_a_doubt_or_not(rt: HostRuntime) {
+    let alloc = rt.alloc();
+    assert_eq!(rt; found(alloc, b"\x01"), Outcome::Opened(1, 1, 8));
+    assert_eq!(rt; found(alloc, b"\x00"), Outcome::Opened(1, 0, 0));
 }

@@ -1,5 +1,5 @@
 //! Tests of the journal over a disk in memory: worked examples, stops and faults at each device call, and each call
-//! once with ample memory.
+//! once with ample memory. A test is a list of steps and what comes of each.
 #![tactic(auto)]
 
 #[cfg(test)]
@@ -10,7 +10,6 @@ mod disks;
 mod doubts;
 #[cfg(test)]
 mod faults;
-#[cfg(test)]
-mod recipes;
+pub mod steps;
 #[cfg(test)]
 mod stops;

@@ -1,60 +1,52 @@
 // A stop after each device call of an entry's four.
-use crate::recipes::{TICK, append, held, made};
-use sc_base::Bytes;
+use crate::steps::{Outcome, Step, disk};
 use std::alloc::Global;
-use std::test::Fail;
 
-const OLD: &[u8] = b"old";
+// The command `tick 5` as a body.
+const TICK: &[u8] = b"\x04\x00\x00\x00\x00\x00\x00\x00\x05";
 
 // The bytes of a valid entry whose gate is open.
 const ENTRY: &[u8] = b"\x01\x00\x00\x00\x01x\x00";
 
-// The bodies that are held after a stop that lets so many calls of the second entry happen.
-fn after(alloc: Global, calls: u64, fill: &[u8]) -> Result<Option<Bytes>, Fail> {
-    let Some(mut journal) = made(alloc, 11 + calls.min(4), &[])? else {
-        return Ok(None);
-    };
-    let _first = append(&mut journal, OLD);
-    let _second = append(&mut journal, TICK);
-    if fill.is_empty() {
-        return Ok(None);
+// What is opened after a stop that lets so many calls of the second entry happen: making and opening take seven
+// calls, and the first entry four.
+fn left(alloc: Global, calls: u64, fill: &[u8]) -> Outcome {
+    disk(alloc, 11 + calls.min(4), &[]).last(
+        alloc,
+        &[
+            Step::Create,
+            Step::Open,
+            Step::Append(b"old"),
+            Step::Append(TICK),
+            Step::Close,
+            Step::Stop(fill),
+            Step::Open,
+        ],
+    )
+}
+
+const WITHOUT: Outcome = Outcome::Opened(1, 1, 3);
+
+const WITH: Outcome = Outcome::Opened(1, 2, 12);
+
+#[test]
+fn before_its_gate_is_written_an_entry_is_not_there(rt: HostRuntime) {
+    let alloc = rt.alloc();
+    for calls in 0..3u64 {
+        assert_eq!(rt; left(alloc, calls, ENTRY), WITHOUT, "after {calls} calls");
     }
-    let disk = journal.into_disk().crash(fill, 10)?;
-    held(alloc, disk)
-}
-
-fn has_tick(alloc: Global, calls: u64, fill: &[u8]) -> Result<Option<bool>, Fail> {
-    let Some(all) = after(alloc, calls, fill)? else {
-        return Ok(None);
-    };
-    if !all.slice().starts_with(OLD) {
-        return Ok(None);
-    }
-    Ok(Some(all.len() > OLD.len()))
 }
 
 #[test]
-fn before_the_gate_is_written_the_entry_is_not_there(rt: HostRuntime) -> Result<(), Fail> {
+fn while_its_gate_is_pending_it_may_be(rt: HostRuntime) {
     let alloc = rt.alloc();
-    assert_eq!(rt; has_tick(alloc, 0, ENTRY)?, Some(false));
-    assert_eq!(rt; has_tick(alloc, 1, ENTRY)?, Some(false));
-    assert_eq!(rt; has_tick(alloc, 2, ENTRY)?, Some(false));
-    assert_eq!(rt; has_tick(alloc, 1, b"\x01")?, Some(false));
-    Ok(())
+    assert_eq!(rt; left(alloc, 3, ENTRY), WITH);
+    assert_eq!(rt; left(alloc, 3, b"\x00"), WITHOUT);
 }
 
 #[test]
-fn while_the_gate_is_pending_it_may_be(rt: HostRuntime) -> Result<(), Fail> {
+fn after_the_last_sync_it_is(rt: HostRuntime) {
     let alloc = rt.alloc();
-    assert_eq!(rt; has_tick(alloc, 3, ENTRY)?, Some(true));
-    assert_eq!(rt; has_tick(alloc, 3, b"\x00")?, Some(false));
-    Ok(())
-}
-
-#[test]
-fn after_the_last_sync_it_is(rt: HostRuntime) -> Result<(), Fail> {
-    let alloc = rt.alloc();
-    assert_eq!(rt; has_tick(alloc, 4, ENTRY)?, Some(true));
-    assert_eq!(rt; has_tick(alloc, 4, b"\x00")?, Some(true));
-    Ok(())
+    assert_eq!(rt; left(alloc, 4, ENTRY), WITH);
+    assert_eq!(rt; left(alloc, 4, b"\x00"), WITH);
 }
