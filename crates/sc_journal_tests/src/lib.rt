@@ -10,6 +10,8 @@ mod disks;
 mod doubts;
 #[cfg(test)]
 mod faults;
+pub mod lending;
+pub mod silent;
 pub mod steps;
 #[cfg(test)]
 mod stops;
