@@ -1,8 +1,6 @@
 // A read, a write or a sync that fails at each device call.
-use crate::lending::{Lent, add_to};
-use crate::silent::SilentDisk;
 use crate::steps::{Outcome, Step, disk};
-use sc_dev::{Disk, Part};
+use sc_dev::Part;
 use std::test::Fail;
 
 #[test]
@@ -123,11 +121,4 @@ fn a_full_disk_fails(rt: HostRuntime) -> Result<(), Fail> {
     ];
     assert_eq!(rt; &outcomes[3.min(outcomes.len())..], want.as_slice());
     Ok(())
-}
-
-#[test]
-fn a_disk_that_fails_at_once_comes_back(rt: HostRuntime) {
-    let mut disk = SilentDisk::new();
-    assert_eq!(rt; add_to(rt.alloc(), &mut disk, b"x"), Lent::Failed);
-    assert_eq!(rt; disk.moment(), 1);
 }
