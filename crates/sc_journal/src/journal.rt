@@ -54,6 +54,15 @@ pub struct NotOpened<D: Disk> {
     pub fault: JournalFault,
 }
 
+impl<D: Disk> NotOpened<D> {
+    /// The disk. One that was lent is known to be back where it is taken by this call.
+    pub fn into_disk(self) -> D
+        ensures { result ≡ self.disk }
+    {
+        self.disk
+    }
+}
+
 impl<D: Disk> Journal<D> {
     /// Opens a journal: syncs it and reads what it holds. The disk comes back where that fails.
     pub fn open(alloc: Global, disk: D) -> Result<Opened<D>, NotOpened<D>>

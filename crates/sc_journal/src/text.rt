@@ -98,7 +98,8 @@ fn body_at(number: u64, rest: &[u8]) -> Option<&[u8]>
     ensures number { OnSome result (number ≤ 2 ^ 48) }
     ensures entry { IfSome result (λ b. rest.now
         ≡ number_field 4 (length b.now) ++ (b.now ++ drop (4 + length b.now) rest.now)) }
-    ensures size { IfSome result (λ b. (1 ≤ length b.now) × ((length b.now ≤ 2097152) × (4 + length b.now < length rest.now))) }
+    ensures size { IfSome result (λ b. (1 ≤ length b.now)
+        × ((length b.now ≤ 2097152) × (4 + length b.now < length rest.now))) }
 {
     if number > 1 << 48 || rest.len() < 4 {
         return None;

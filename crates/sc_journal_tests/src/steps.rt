@@ -1,0 +1,230 @@
+//! Steps on a disk in memory and a journal on it, and what comes of them.
+
+use sc_base::Bytes;
+use sc_dev::{Disk, MemDisk, Part};
+use sc_journal::{AppendFault, CreateFault, Journal, JournalFault, create};
+use std::alloc::{AllocError, Global};
+
+/// What is asked for.
+#[derive(Clone, Copy)]
+pub enum Step<'a> {
+    Create,
+    Open,
+    Append(&'a [u8]),
+    Settle,
+    Close,
+    /// Goes on with what a stop leaves whose pending ranges hold these bytes.
+    Stop(&'a [u8]),
+    Write(Part, u64, &'a [u8]),
+    Sync(Part),
+    /// Whether the part has these bytes.
+    Has(Part, &'a [u8]),
+    Moment,
+}
+
+/// What came of it.
+#[derive(Clone, Copy, Debug, PartialEq, Eq)]
+pub enum Outcome {
+    Done,
+    Failed,
+    Exists,
+    Full,
+    Damaged(u64),
+    InDoubt,
+    /// The number of the first body, the number of bodies, and of their bytes.
+    Opened(u64, usize, usize),
+    Yes,
+    No,
+    Number(u64),
+    NoMemory,
+    /// No such step is possible here.
+    Nothing,
+}
+
+/// A disk, alone or with a journal.
+#[derive(Drop)]
+pub enum State {
+    Disk(MemDisk),
+    Journal(Journal<MemDisk>),
+    Gone,
+}
+
+/// A new disk with rooms that are ample but for the calls, some of which fail.
+pub fn disk(alloc: Global, calls: u64, failing: &[u64]) -> State {
+    small_disk(alloc, 1 << 20, calls, failing)
+}
+
+/// A new disk with so many bytes of room in each part, and as many for writes.
+pub fn small_disk(alloc: Global, room: u64, calls: u64, failing: &[u64]) -> State {
+    match MemDisk::new(alloc, room.min(1 << 20), calls, room, failing) {
+        Ok(disk) => State::Disk(disk),
+        Err(_) => State::Gone,
+    }
+}
+
+impl State {
+    /// What comes of these steps, one after another.
+    pub fn after(self, alloc: Global, steps: &[Step<'_>]) -> Result<Vec<Outcome>, AllocError> {
+        let mut state = self;
+        let mut outcomes = Vec::with_capacity(alloc, steps.len())?;
+        for step in steps {
+            let (next, outcome) = state.step(alloc, step);
+            state = next;
+            match outcomes.push(outcome) {
+                Ok(()) => {}
+                Err(_) => return Err(AllocError),
+            }
+        }
+        Ok(outcomes)
+    }
+
+    /// What comes of the last of these steps.
+    pub fn last(self, alloc: Global, steps: &[Step<'_>]) -> Outcome {
+        let mut state = self;
+        let mut last = Outcome::Nothing;
+        for step in steps {
+            let (next, outcome) = state.step(alloc, step);
+            state = next;
+            last = outcome;
+        }
+        last
+    }
+
+    fn step(self, alloc: Global, step: &Step<'_>) -> (State, Outcome) {
+        match self {
+            State::Disk(disk) => on_disk(alloc, disk, step),
+            State::Journal(journal) => on_journal(journal, step),
+            State::Gone => (State::Gone, Outcome::Nothing),
+        }
+    }
+}
+
+fn on_disk(alloc: Global, disk: MemDisk, step: &Step<'_>) -> (State, Outcome) {
+    match step {
+        Step::Open => open(alloc, disk),
+        Step::Stop(fill) => stop(disk, fill),
+        _ => called(disk, step),
+    }
+}
+
+fn called(disk: MemDisk, step: &Step<'_>) -> (State, Outcome) {
+    let mut disk = disk;
+    let outcome = match step {
+        Step::Create => made(&mut disk),
+        Step::Write(part, at, piece) => written(&mut disk, *part, *at, piece),
+        Step::Sync(part) => synced(&mut disk, *part),
+        Step::Has(part, bytes) => has(&disk, *part, bytes),
+        Step::Moment => Outcome::Number(disk.moment()),
+        _ => Outcome::Nothing,
+    };
+    (State::Disk(disk), outcome)
+}
+
+fn made(disk: &mut MemDisk) -> Outcome {
+    match create(disk) {
+        Ok(()) => Outcome::Done,
+        Err(CreateFault::Failed) => Outcome::Failed,
+        Err(CreateFault::Exists) => Outcome::Exists,
+    }
+}
+
+fn written(disk: &mut MemDisk, part: Part, at: u64, piece: &[u8]) -> Outcome {
+    if piece.is_empty() || piece.len() > 1 << 20 || at > 1 << 20 {
+        return Outcome::Nothing;
+    }
+    match disk.write_at(part, at, piece) {
+        Ok(()) => Outcome::Done,
+        Err(_) => Outcome::Failed,
+    }
+}
+
+fn synced(disk: &mut MemDisk, part: Part) -> Outcome {
+    match disk.sync(part) {
+        Ok(()) => Outcome::Done,
+        Err(_) => Outcome::Failed,
+    }
+}
+
+fn has(disk: &MemDisk, part: Part, bytes: &[u8]) -> Outcome {
+    if disk.bytes(part) == bytes {
+        Outcome::Yes
+    } else {
+        Outcome::No
+    }
+}
+
+fn open(alloc: Global, disk: MemDisk) -> (State, Outcome) {
+    match Journal::open(alloc, disk) {
+        Ok(opened) => {
+            let outcome = Outcome::Opened(
+                opened.first,
+                opened.bodies.len(),
+                size_of(&opened.bodies),
+            );
+            (State::Journal(opened.journal), outcome)
+        }
+        Err(refused) => {
+            let outcome = fault(refused.fault);
+            (State::Disk(refused.disk), outcome)
+        }
+    }
+}
+
+fn fault(fault: JournalFault) -> Outcome {
+    match fault {
+        JournalFault::Disk => Outcome::Failed,
+        JournalFault::Damaged(place) => Outcome::Damaged(place),
+        JournalFault::NoMemory => Outcome::NoMemory,
+    }
+}
+
+fn size_of(bodies: &[Bytes]) -> usize {
+    let mut size = 0usize;
+    for body in bodies {
+        size = size.saturating_add(body.len());
+    }
+    size
+}
+
+fn stop(disk: MemDisk, fill: &[u8]) -> (State, Outcome) {
+    if fill.is_empty() {
+        return (State::Disk(disk), Outcome::Nothing);
+    }
+    match disk.crash(fill, 100) {
+        Ok(left) => (State::Disk(left), Outcome::Done),
+        Err(_) => (State::Gone, Outcome::NoMemory),
+    }
+}
+
+fn on_journal(journal: Journal<MemDisk>, step: &Step<'_>) -> (State, Outcome) {
+    let mut journal = journal;
+    let outcome = match step {
+        Step::Append(body) => added(&mut journal, body),
+        Step::Settle => settled(&mut journal),
+        Step::Moment => Outcome::Number(journal.moment()),
+        Step::Close => return (State::Disk(journal.into_disk()), Outcome::Done),
+        _ => Outcome::Nothing,
+    };
+    (State::Journal(journal), outcome)
+}
+
+fn added(journal: &mut Journal<MemDisk>, body: &[u8]) -> Outcome {
+    if journal.in_doubt() {
+        return Outcome::InDoubt;
+    }
+    if body.is_empty() || body.len() > 2_097_152 {
+        return Outcome::Nothing;
+    }
+    match journal.append(body) {
+        Ok(()) => Outcome::Done,
+        Err(AppendFault::Failed) => Outcome::Failed,
+        Err(AppendFault::Full) => Outcome::Full,
+    }
+}
+
+fn settled(journal: &mut Journal<MemDisk>) -> Outcome {
+    match journal.settle() {
+        Ok(()) => Outcome::Done,
+        Err(_) => Outcome::Failed,
+    }
+}
