@@ -44,8 +44,7 @@ impl Plain for Kind {
     ghost clone_equals = { Prim.search rules };
 }
 
-/// The shares of all texts are taken before one is moved: half of the time of a derived clone, which moves each text
-/// through a result of its own.
+/// The shares of all texts are taken before one is moved, so that no text goes through a result of its own.
 impl Clone for Event {
     ghost is_clone = { λ e copy. copy ≡ e };
 
