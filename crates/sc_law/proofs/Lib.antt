@@ -1,10 +1,1 @@
-pub mod ChangeLemmas
-pub mod FoundLemmas
-pub mod GivenLemmas
-pub mod HistoryLemmas
-pub mod Once
 pub mod PathLemmas
-pub mod PendingLemmas
-pub mod Promise
-pub mod RoundLemmas
-pub mod TurnLemmas

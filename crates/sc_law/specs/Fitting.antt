@@ -16,10 +16,11 @@ use Rattle.sc_law.specs.Nodes.{element}
 use Rattle.sc_law.specs.Tree.{state_count}
 use Rattle.sc_law.specs.Configurations.{IsConfiguration, parent_of}
 use Rattle.sc_law.specs.Records.{records}
-use Rattle.sc_law.specs.Runs.{fresh_state}
+use Rattle.sc_law.specs.Runs.{RunState, fresh_state}
 use Rattle.sc_law.specs.Evaluation.{is_pair_named}
 use Rattle.sc_law.specs.Data.{data_paths, own_id}
 use Rattle.sc_law.specs.Invokes.{invokes_of}
+use Rattle.sc_law.specs.Turn.{begin}
 use Rattle.sc_law.specs.Kinds.{is_history}
 
 -- each is above the one before it
@@ -52,20 +53,27 @@ has_datum values n = list_any (is_pair_named (own_id n)) values
 abbrev pub data_elements : Chart → List Node
 data_elements c = map (element c) (data_paths c)
 
--- A session that runs: its configuration is legal, its lists are ascending and name states, its invokes are those of
--- active states, each once, and each datum of the chart is among its values.
+-- A run in the middle of a turn. Its configuration is legal, its lists are ascending and name states, its invokes are
+-- those of active states, each once, the states whose invokes are still to be started are active and none of theirs
+-- runs, and each datum of the chart is among its values.
+pub record FitsRun (c : Chart) (x : RunState) : Type 0 where
+  pub legal : IsConfiguration c x.running.env.configuration
+  pub active : IsTrue (are_states c x.running.env.configuration)
+  pub entered : IsTrue (are_states c x.running.entered)
+  pub in_order : IsTrue (rises (map (λ (kept : ℕ × List ℕ). kept.0) x.histories))
+  pub kept : IsTrue (list_all (λ (kept : ℕ × List ℕ). are_states c kept.1) x.histories)
+  pub recorded : All (IsRecorded c) x.histories
+  pub invokes : IsTrue (list_all (is_own_invoke c x.running.env.configuration) x.running.invokes)
+  pub no_invoke_twice : IsDistinct is_same_element x.running.invokes
+  pub to_start : IsTrue (rises x.running.todo && list_all (contains x.running.env.configuration) x.running.todo)
+  pub none_started : IsTrue (list_all (λ (i : Invoked). not (contains x.running.todo i.state)) x.running.invokes)
+  pub no_name_twice : IsDistinct bytes_eq (map (λ (pair : List ℕ × Option Value). pair.0) x.running.env.values)
+  pub declared : IsTrue (list_all (has_datum x.running.env.values) (data_elements c))
+
+-- a session that runs, as a turn begins with it
 pub record FitsRunning (c : Chart) (s : SessionState) : Type 0 where
   pub running : s.phase ≡ phase.Running
-  pub legal : IsConfiguration c s.configuration
-  pub active : IsTrue (are_states c s.configuration)
-  pub entered : IsTrue (are_states c s.entered)
-  pub in_order : IsTrue (rises (map (λ (kept : ℕ × List ℕ). kept.0) s.histories))
-  pub kept : IsTrue (list_all (λ (kept : ℕ × List ℕ). are_states c kept.1) s.histories)
-  pub recorded : All (IsRecorded c) s.histories
-  pub invokes : IsTrue (list_all (is_own_invoke c s.configuration) s.invokes)
-  pub no_invoke_twice : IsDistinct is_same_element s.invokes
-  pub no_name_twice : IsDistinct bytes_eq (map (λ (pair : List ℕ × Option Value). pair.0) s.values)
-  pub declared : IsTrue (list_all (has_datum s.values) (data_elements c))
+  pub fits : FitsRun c (begin c s)
 
 -- a session that fits a chart: it was not stepped yet, or it runs
 pub data Fits (c : Chart) (s : SessionState) : Type 0 where

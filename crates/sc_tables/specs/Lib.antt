@@ -3,6 +3,5 @@ pub mod Built
 pub mod Ids
 pub mod Kept
 pub mod Nearest
-pub mod Only
 pub mod Preorder
 pub mod Rows

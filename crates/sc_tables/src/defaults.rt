@@ -2,18 +2,16 @@ ghost use Rattle.std.specs.Prelude.{◌≡◌, ◌+◌, ◌≤◌, ℕ, IfOk, fi
 ghost use Rattle.std.specs.List.{list_any, range_with_len};
 ghost use Rattle.std.specs.Option.{option_copied};
 ghost use Rattle.std.specs.Prelude.{take, unwrap_or};
-ghost use Rattle.sc_types.specs.declared.chart.Tag.TheVariants as tag_name;
 ghost use Rattle.sc_law.specs.Nodes.{tag_of, is_tag, element};
 ghost use Rattle.sc_law.specs.Tree.{state_count};
 ghost use Rattle.sc_law.specs.Legality.{is_default, default_ids};
 ghost use Rattle.sc_law.specs.Configurations.{children, defaults, defaults_at, has_initial, initial_ids, state_defaults, named};
 ghost use Rattle.sc_tables.specs.Built.{AreStates};
-ghost use Rattle.sc_tables.specs.Only.{only};
 
 use crate::ids::StateIds;
 use crate::states::States;
 use sc_bits::Row;
-use sc_law::{element, has_states};
+use sc_law::{default_ids, element, has_states};
 use sc_types::{Attribute, Bytes, NoMemory, Node, Sequence, Tag};
 use std::alloc::Global;
 
@@ -120,46 +118,4 @@ fn ids_or_none(ids: Option<&[Bytes]>) -> &[Bytes]
         Some(ids) => ids,
         None => &[],
     }
-}
-
-/// What the only transition of an element names, where it only names targets.
-fn default_ids(node: &Node) -> Option<&[Bytes]>
-    ensures { option_map (λ ids. ids.now) result ≡ default_ids node.now }
-{
-    let transition = only_transition(node.kids.slice())?;
-    if is_default(transition) {
-        Some(transition.words(Attribute::Target))
-    } else {
-        None
-    }
-}
-
-/// The only transition among elements.
-fn only_transition(kids: &[Node]) -> Option<&Node>
-    ensures { option_copied result ≡ only (filter (λ kid. is_tag tag_name.Transition (tag_of kid)) kids.now) }
-{
-    let mut found = None;
-    for kid in kids {
-        if is_transition_tag(kid.tag) {
-            if found.is_some() {
-                return None;
-            }
-            found = Some(kid);
-        }
-    }
-    found
-}
-
-fn is_transition_tag(tag: Tag) -> bool
-    ensures { result ≡ is_tag tag_name.Transition tag }
-{
-    matches!(tag, Tag::Transition)
-}
-
-fn is_default(transition: &Node) -> bool
-    ensures { result ≡ is_default transition.now }
-{
-    !transition.has(Attribute::Event)
-        && !transition.has(Attribute::Cond)
-        && !transition.words(Attribute::Target).is_empty()
 }

@@ -5,7 +5,7 @@ use Rattle.sc_types.specs.declared.host.SessionImage.{SessionImage}
 use Rattle.sc_types.specs.declared.session.Cue.{Cue}
 use Rattle.sc_types.specs.declared.session.Phase.{Phase}
 use Rattle.sc_types.specs.declared.session.Phase.TheVariants.{Fresh, Running, Ended}
-use Rattle.sc_law.specs.Host.{session_named, cue_in, cue_of, step_cue, step_in, step_found, step}
+use Rattle.sc_flat.specs.Host.{session_named, cue_in, cue_of, step_cue, step_in, step_found, step}
 
 -- a list that gives each item of another gives it at its place
 pub given_at : {A B : Type 0} (f : A → Option B) (xs : List A) (ys : List B) (i : ℕ)

@@ -3,7 +3,7 @@ use Rattle.std.proofs.Common.{◌≡◌, ℕ, [], None, option_and_then, unwrap_
 use Rattle.sc_types.specs.declared.chart.Node.TheViews.{out-Node, roll-Node}
 use Rattle.sc_types.specs.declared.chart.Node.TheBlock.{shown-the_row-Node-0}
 use denote.Hole.Carrier as carrier
-use Rattle.sc_law.specs.Host.{bare_chart}
+use Rattle.sc_flat.specs.Host.{bare_chart}
 use Rattle.sc_law.specs.Nodes.{elements_from, node_at}
 use Rattle.sc_law.specs.Tree.{state_paths, path_of, node_of, id_of}
 

@@ -2,11 +2,11 @@
 -- This host's own rule. It is stated by how the commands are printed, and says nothing of how a text is read.
 use Rattle.std.specs.Prelude.{ℕ, ◌≡◌, ◌≢◌, ◌<◌, ◌≤◌, ◌-◌, ◌==◌, Bool, not, List, [], ◌∷◌, length, map, slice_index, All, IsTrue, IsSome}
 use Rattle.std.specs.List.{list_all, flat_map}
-use Rattle.sc_law.specs.FlatCharts.{flat_chart_of}
+use Rattle.sc_flat.specs.FlatCharts.{flat_chart_of}
 use Rattle.sc_base.specs.Text.{IsWord, IsPlainName}
 use Rattle.sc_types.specs.declared.command.Command.{Command}
 use Rattle.sc_types.specs.declared.command.Command.TheVariants.{Install, Start, Post}
-use Rattle.sc_law.specs.Lines.{line, command_text}
+use Rattle.sc_flat.specs.Lines.{line, command_text}
 use Rattle.sc_top.specs.declared.script_reader.TheConstants.{SCRIPT_LIMIT}
 use Rattle.sc_types.specs.declared.limits.TheConstants.{NAME_LIMIT}
 

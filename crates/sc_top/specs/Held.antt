@@ -1,9 +1,9 @@
 -- The host as this program holds it: each installed chart has its tree beside it. This host's own rule.
 use Rattle.std.specs.Prelude.{◌≡◌, ◌+◌, ◌≤◌, Some, map}
-use Rattle.sc_law.specs.FlatCharts.{flat_chart_of}
+use Rattle.sc_flat.specs.FlatCharts.{flat_chart_of}
 use Rattle.sc_types.specs.declared.host.ChartImage.{ChartImage}
 use Rattle.sc_types.specs.declared.host.HostImage.{HostImage}
-use Rattle.sc_law.specs.Host.{Answer}
+use Rattle.sc_flat.specs.Host.{Answer}
 use Rattle.sc_top.specs.declared.host.Answered.{Answered}
 use Rattle.sc_top.specs.declared.host.Host.{Host}
 

@@ -3,8 +3,8 @@ ghost use Rattle.sc_types.specs.declared.chart.ChartFault.{ChartFault};
 ghost use Rattle.sc_types.specs.ChartTexts.{states_in, count_states};
 ghost use Rattle.sc_types.specs.Elements.{is_numbered};
 ghost use Rattle.sc_law.specs.LegalCharts.{legal_chart_of};
-ghost use Rattle.sc_law.specs.Lines.{line};
-ghost use Rattle.sc_law.specs.Report.{fault_text};
+ghost use Rattle.sc_flat.specs.Lines.{line};
+ghost use Rattle.sc_flat.specs.Report.{fault_text};
 ghost use Rattle.sc_top.specs.Sayings.{status_of, text_of, check_status, check_text};
 
 use crate::report::lines::put_counted;

@@ -4,7 +4,7 @@ ghost use Rattle.std.specs.List.{list_all};
 ghost use Rattle.std.specs.Str.{bytes_eq};
 ghost use Rattle.sc_types.specs.declared.chart.Node.{out-Node};
 ghost use Rattle.sc_types.specs.FlatChart.{is_bare_byte, is_bare_literal, is_bare_code, text_of, only_word, word_of, only_member, is_log_member, is_log, id_member, id_of, has_id, has_state, has_own_id, have_own_ids, is_event_member, is_target_member, are_transition_members, is_kid, is_state_among, are_states, is_root, is_flat};
-ghost use Rattle.sc_law.specs.FlatCharts.{flat_chart_of};
+ghost use Rattle.sc_flat.specs.FlatCharts.{flat_chart_of};
 
 use sc_chart_json::read_chart;
 use sc_types::{
@@ -13,7 +13,7 @@ use sc_types::{
 use std::alloc::Global;
 
 /// The flat chart that a text spells, if it spells one.
-#[tactic(auto, unfolding(sc_law::specs::FlatCharts::flat_chart_of))]
+#[tactic(auto, unfolding(sc_flat::specs::FlatCharts::flat_chart_of))]
 pub(crate) fn read_flat_chart(alloc: Global, text: &[u8]) -> Result<Option<Chart>, NoMemory>
     ensures { IfOk result (λ o. o ≡ flat_chart_of text.now) }
 {

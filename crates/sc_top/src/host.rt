@@ -1,12 +1,12 @@
 ghost use Rattle.std.specs.Prelude.{◌≡◌, ◌+◌, ◌^◌, ◌<◌, [], Some, option_map, is_some, find, unwrap_or, slice_get, IfSome, IfOk, OnOk, length};
 ghost use Rattle.std.specs.Option.{option_copied};
-ghost use Rattle.sc_law.specs.Host.{empty_host, has_chart, chart_place, chart_named, bare_chart, session_place, session_named, not_read, fresh_session, has_slash, posted_event, waiting_cue, cue_of, name_of, queue_left, queue_of_phase, ready};
+ghost use Rattle.sc_flat.specs.Host.{empty_host, has_chart, chart_place, chart_named, bare_chart, session_place, session_named, not_read, fresh_session, has_slash, posted_event, waiting_cue, cue_of, name_of, queue_left, queue_of_phase, ready};
 ghost use Rattle.sc_law.specs.Runs.{fresh_state, pairs_data};
-ghost use Rattle.sc_law.specs.Flat.Turn.{turn};
+ghost use Rattle.sc_flat.specs.Flat.Turn.{turn};
 
 use crate::flat::read_flat_chart;
 use sc_base::{Bytes, NoMemory, Plain, Queue, Sequence, SmallBytes, Word};
-use sc_law::{Tree, TurnResult, turn};
+use sc_flat::{Tree, TurnResult, turn};
 use sc_types::{
     Chart, ChartFault, ChartImage, Command, Cue, CueName, Data, Delivery, EVENT_NAME_LIMIT, Event,
     HostImage, Kind, LogLine, NAME_LIMIT, Node, PairList, Phase, Refusal, Reply, SessionImage,
@@ -44,7 +44,7 @@ impl Answered {
 }
 
 impl Host {
-    ghost use Rattle.sc_law.specs.Host.{install, start, post, step, answer};
+    ghost use Rattle.sc_flat.specs.Host.{install, start, post, step, answer};
     ghost use Rattle.sc_top.specs.Held.{IsHeld, DoesAnswer, Counts};
 
     pub fn new(alloc: Global) -> Host
@@ -197,7 +197,7 @@ impl Host {
     }
 
     /// Does a command, as the host machine answers it. After `NoMemory` the host is to be given up.
-    #[tactic(auto, unfolding(sc_law::specs::Host::answer))]
+    #[tactic(auto, unfolding(sc_flat::specs::Host::answer))]
     pub fn answer(&mut self, alloc: Global, command: &Command) -> Result<Answered, NoMemory>
         requires held { IsHeld self.old }
         requires room { self.old.image.commands + 1 < 2 ^ 64 }

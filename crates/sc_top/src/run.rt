@@ -1,6 +1,6 @@
 ghost use Rattle.std.specs.Prelude.{◌≡◌, ◌+◌, ◌^◌, ◌<◌, ◌≤◌, [], Some, List, IfOk, OnOk, length};
 ghost use Rattle.sc_types.specs.declared.command.Command.{Command};
-ghost use Rattle.sc_law.specs.Host.{empty_host, ready};
+ghost use Rattle.sc_flat.specs.Host.{empty_host, ready};
 ghost use Rattle.sc_top.specs.Held.{IsHeld};
 ghost use Rattle.sc_top.specs.Running.{HasRun};
 

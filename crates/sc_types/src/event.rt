@@ -49,9 +49,7 @@ impl Clone for Event {
     ghost is_clone = { λ e copy. copy ≡ e };
 
     fn clone(&self) -> Result<Self, AllocError> {
-        let Ok(payload) = self.payload.copy() else {
-            return Err(AllocError);
-        };
+        let payload = copied(&self.payload)?;
         let name = self.name.share()?;
         let (sendid, invokeid) = share_ids(self)?;
         let (origin, origintype) = share_origins(self)?;
@@ -66,6 +64,14 @@ impl Clone for Event {
             payload,
         })
     }
+}
+
+/// Not inlined, so that the frame of an event's copy does not hold that of every value's.
+#[inline(never)]
+fn copied(data: &Data) -> Result<Data, AllocError>
+    ensures { IfOk result (λ copy. copy ≡ data.now) }
+{
+    data.clone()
 }
 
 fn share_ids(event: &Event) -> Result<(Share, Share), AllocError>

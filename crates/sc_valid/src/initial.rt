@@ -5,12 +5,11 @@ ghost use Rattle.sc_types.specs.declared.chart.Tag.TheVariants as tag_name;
 ghost use Rattle.sc_law.specs.Nodes.{tag_of, is_tag, element, parent};
 ghost use Rattle.sc_law.specs.Tree.{is_atomic_element};
 ghost use Rattle.sc_law.specs.Legality.{is_default, names_none, only_default, default_ids, is_bad_member, are_bad_defaults, is_bad_element, is_bad_initial, is_bad_recorded, are_bad_recorded, is_bad_history, is_state_or_parallel, are_below, targets};
-ghost use Rattle.sc_valid.specs.Only.{only};
 
 use crate::index::{ChartIndex, parent};
 use crate::tags::{has_kid, is_state_or_parallel};
 use crate::target::are_below;
-use sc_law::{Path, has_states, is_atomic_element, leads_on};
+use sc_law::{Path, default_ids, has_states, is_atomic_element, leads_on};
 use sc_types::{Attribute, Bytes, NoMemory, Node, Tag};
 use std::alloc::Global;
 
@@ -132,48 +131,6 @@ fn is_bad_below(node: &Node, path: &[usize], targets: &[Path]) -> bool
         || is_state_or_parallel (tag_of node.now) && not (are_below path.now targets.now)) }
 {
     is_atomic_element(node) || is_state_or_parallel(node.tag) && !are_below(path, targets)
-}
-
-/// What the only transition of an element names, where it only names targets.
-fn default_ids(node: &Node) -> Option<&[Bytes]>
-    ensures { option_map (λ ids. ids.now) result ≡ default_ids node.now }
-{
-    let transition = only_transition(node.kids.slice())?;
-    if is_default(transition) {
-        Some(transition.words(Attribute::Target))
-    } else {
-        None
-    }
-}
-
-/// The only transition among elements.
-fn only_transition(kids: &[Node]) -> Option<&Node>
-    ensures { option_copied result ≡ only (filter (λ kid. is_tag tag_name.Transition (tag_of kid)) kids.now) }
-{
-    let mut found = None;
-    for kid in kids {
-        if is_transition_tag(kid.tag) {
-            if found.is_some() {
-                return None;
-            }
-            found = Some(kid);
-        }
-    }
-    found
-}
-
-fn is_transition_tag(tag: Tag) -> bool
-    ensures { result ≡ is_tag tag_name.Transition tag }
-{
-    matches!(tag, Tag::Transition)
-}
-
-fn is_default(transition: &Node) -> bool
-    ensures { result ≡ is_default transition.now }
-{
-    !transition.has(Attribute::Event)
-        && !transition.has(Attribute::Cond)
-        && !names_none(Attribute::Target, transition)
 }
 
 /// Whether a list of names is empty, as in no chart that a text spells.

@@ -1,9 +1,9 @@
 ghost use Rattle.std.specs.Prelude.{◌≡◌, ◌++◌, OnOk, unwrap_or, option_and_then, codes};
 ghost use Rattle.std.specs.List.{flat_map};
 ghost use Rattle.std.specs.Option.{option_copied};
-ghost use Rattle.sc_law.specs.Host.{bare_chart, chart_named};
-ghost use Rattle.sc_law.specs.Lines.{line};
-ghost use Rattle.sc_law.specs.Report.{state_text, datum_text, live_text, phase_text, session_text};
+ghost use Rattle.sc_flat.specs.Host.{bare_chart, chart_named};
+ghost use Rattle.sc_flat.specs.Lines.{line};
+ghost use Rattle.sc_flat.specs.Report.{state_text, datum_text, live_text, phase_text, session_text};
 ghost use Rattle.sc_law.specs.Tree.{node_of, id_of};
 ghost use Rattle.sc_top.specs.Held.{IsHeld};
 
@@ -12,7 +12,7 @@ use crate::report::lines::put_counted;
 use crate::report::replies::put_how;
 use sc_base::{NoMemory, PlainName, TextWriter};
 use sc_expr::put_value;
-use sc_law::Tree;
+use sc_flat::Tree;
 use sc_types::{Phase, SessionImage, SessionState, Value};
 
 /// A state of this tree by its id, or by its number where it has none.

@@ -1,5 +1,5 @@
 use Rattle.std.proofs.Common.{◌≡◌, Some, rules}
-use Rattle.sc_law.specs.Host.{session_named, cue_of}
+use Rattle.sc_flat.specs.Host.{session_named, cue_of}
 use Rattle.sc_top.proofs.HostLemmas.{step_taken}
 use Rattle.sc_top.proofs.host.Host.step.Goals as goal
 

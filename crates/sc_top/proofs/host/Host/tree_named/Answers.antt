@@ -1,8 +1,8 @@
 use Rattle.std.proofs.Common.{◌≡◌, Some, None, unwrap_or, option_and_then, sym, ap, ◌∙◌, rules}
 use Rattle.std.specs.Option.{option_copied}
-use Rattle.sc_law.specs.FlatCharts.{flat_chart_of}
+use Rattle.sc_flat.specs.FlatCharts.{flat_chart_of}
 use Rattle.sc_types.specs.declared.host.ChartImage.{ChartImage}
-use Rattle.sc_law.specs.Host.{bare_chart, chart_place, chart_at}
+use Rattle.sc_flat.specs.Host.{bare_chart, chart_place, chart_at}
 use Rattle.sc_top.proofs.HostLemmas.{given_at}
 use Rattle.sc_top.proofs.host.Host.tree_named.Goals as goal
 

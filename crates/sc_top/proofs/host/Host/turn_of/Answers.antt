@@ -1,7 +1,7 @@
 use Rattle.std.proofs.Common.{◌≡◌, IfOk, subst, ◌∙◌, rules}
 use Rattle.sc_types.specs.declared.chart.Chart.{Chart}
-use Rattle.sc_law.specs.Host.{chart_named, bare_chart}
-use Rattle.sc_law.specs.Flat.Turn.{turn}
+use Rattle.sc_flat.specs.Host.{chart_named, bare_chart}
+use Rattle.sc_flat.specs.Flat.Turn.{turn}
 use Rattle.sc_top.proofs.host.Host.turn_of.Goals as goal
 
 pub returns-in-Some : goal.returns-in-Some

@@ -1,7 +1,7 @@
 use Rattle.std.proofs.Common.{◌≡◌, None, Option, unwrap_or, option_and_then, sym, ap, ◌∙◌, rules}
 use Rattle.std.specs.Option.{option_copied}
 use Rattle.sc_types.specs.declared.chart.Chart.{Chart}
-use Rattle.sc_law.specs.Host.{bare_chart}
+use Rattle.sc_flat.specs.Host.{bare_chart}
 use Rattle.sc_law.specs.Tree.{node_of, id_of}
 use Rattle.sc_top.proofs.ReportLemmas.{bare_id}
 use Rattle.sc_top.proofs.report.sessions.id_in.Goals as goal

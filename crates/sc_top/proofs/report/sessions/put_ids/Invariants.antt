@@ -2,8 +2,8 @@ use Rattle.std.proofs.Common.{◌≡◌, ◌++◌, drop}
 use Rattle.std.specs.List.{flat_map}
 use Rattle.std.specs.Prelude.{unwrap_or}
 use Rattle.std.specs.Option.{option_copied}
-use Rattle.sc_law.specs.Host.{bare_chart}
-use Rattle.sc_law.specs.Report.{state_text}
+use Rattle.sc_flat.specs.Host.{bare_chart}
+use Rattle.sc_flat.specs.Report.{state_text}
 use Rattle.sc_top.proofs.report.sessions.put_ids.Given as goal
 
 abbrev pub invariant-loop-state : goal.invariant-loop-state

@@ -1,0 +1,7 @@
+pub mod Flat
+pub mod FlatCharts
+pub mod History
+pub mod Host
+pub mod Lines
+pub mod Report
+pub mod Run
