@@ -1,6 +1,7 @@
 ghost use Rattle.std.specs.Prelude.{◌≡◌, None, IfOk};
 ghost use Rattle.std.specs.Arc.{arc_value};
 ghost use Rattle.sc_types.specs.declared.chart.Chart.{Chart};
+ghost use Rattle.sc_types.specs.declared.session.Phase.TheVariants as phase;
 ghost use Rattle.sc_law.specs.Legality.{legal_fault};
 ghost use Rattle.sc_law.specs.Fitting.{Fits, HasCue};
 ghost use Rattle.sc_law.specs.Turned.{IsTurnOf};
@@ -23,7 +24,8 @@ pub trait Engine: Sync {
         requires legal { legal_fault (arc_value chart.now) ≡ None }
         ensures { IfOk result (λ plan. chart_of plan ≡ arc_value chart.now) };
 
-    /// The turn that a session's cue asks for, computed from these three alone.
+    /// The turn that a session's cue asks for, computed from these three alone. A session that goes on running fits the
+    /// chart again, so that its configuration is a legal one.
     fn turn(
         &self,
         alloc: Global,
@@ -34,5 +36,6 @@ pub trait Engine: Sync {
         requires legal { legal_fault (chart_of plan.now) ≡ None }
         requires fits { Fits (chart_of plan.now) before.now }
         requires cue { HasCue before.now cue.now }
-        ensures { IfOk result (IsTurnOf (chart_of plan.now) before.now cue.now) };
+        ensures turn { IfOk result (IsTurnOf (chart_of plan.now) before.now cue.now) }
+        ensures fits { IfOk result (λ t. t.after.phase ≡ phase.Running → Fits (chart_of plan.now) t.after) };
 }

@@ -68,10 +68,10 @@ impl Clone for Event {
 
 /// Not inlined, so that the frame of an event's copy does not hold that of every value's.
 #[inline(never)]
-fn copied(data: &Data) -> Result<Data, AllocError>
-    ensures { IfOk result (λ copy. copy ≡ data.now) }
+fn copied(payload: &Data) -> Result<Data, AllocError>
+    ensures { IfOk result (λ copy. copy ≡ payload.now) }
 {
-    data.clone()
+    payload.clone()
 }
 
 fn share_ids(event: &Event) -> Result<(Share, Share), AllocError>
