@@ -1,7 +1,7 @@
 -- The texts that spell flat charts. This version runs no others. This host's own rule.
 use Rattle.std.specs.Prelude.{ℕ, if◌then◌else◌, List, Option, Some, None, Result, Ok, Err}
 use Rattle.sc_types.specs.ChartTexts.{chart_of}
-use Rattle.sc_types.specs.FlatChart.{is_flat}
+use Rattle.sc_flat.specs.FlatChart.{is_flat}
 use Rattle.sc_types.specs.declared.chart.Chart.{Chart}
 use Rattle.sc_types.specs.declared.chart.ChartFault.{ChartFault}
 use Rattle.sc_expr.specs.Reading.{expr_of}

@@ -1,4 +1,5 @@
 pub mod Flat
+pub mod FlatChart
 pub mod FlatCharts
 pub mod History
 pub mod Host

@@ -3,7 +3,7 @@ ghost use Rattle.std.specs.Option.{option_copied, option_map_or};
 ghost use Rattle.std.specs.List.{list_all};
 ghost use Rattle.std.specs.Str.{bytes_eq};
 ghost use Rattle.sc_types.specs.declared.chart.Node.{out-Node};
-ghost use Rattle.sc_types.specs.FlatChart.{is_bare_byte, is_bare_literal, is_bare_code, text_of, only_word, word_of, only_member, is_log_member, is_log, id_member, id_of, has_id, has_state, has_own_id, have_own_ids, is_event_member, is_target_member, are_transition_members, is_kid, is_state_among, are_states, is_root, is_flat};
+ghost use Rattle.sc_flat.specs.FlatChart.{is_bare_byte, is_bare_literal, is_bare_code, text_of, only_word, word_of, only_member, is_log_member, is_log, id_member, id_of, has_id, has_state, has_own_id, have_own_ids, is_event_member, is_target_member, are_transition_members, is_kid, is_state_among, are_states, is_root, is_flat};
 ghost use Rattle.sc_flat.specs.FlatCharts.{flat_chart_of};
 
 use sc_chart_json::read_chart;

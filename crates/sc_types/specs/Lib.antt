@@ -4,7 +4,6 @@ pub mod Delays
 pub mod Descriptors
 pub mod Elements
 pub mod Expressions
-pub mod FlatChart
 pub mod PrintedCharts
 pub mod Sends
 pub mod Tokens

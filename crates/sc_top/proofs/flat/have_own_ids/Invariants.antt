@@ -1,5 +1,5 @@
 use Rattle.std.proofs.Common.{◌≡◌, drop}
-use Rattle.sc_types.specs.FlatChart.{have_own_ids}
+use Rattle.sc_flat.specs.FlatChart.{have_own_ids}
 use Rattle.sc_top.proofs.flat.have_own_ids.Given as goal
 
 abbrev pub invariant-loop-place : goal.invariant-loop-place
