@@ -49,8 +49,8 @@ fn recorded(
         ≡ filter_map (kept_by t.now conf.now.members exit.now.members h.now) (range_with_len 0 (state_count t.now))) }
 {
     let mut kept = Sequence::new(alloc);
-    for s in 0..t.count() {
-        push_some(&mut kept, kept_by(alloc, t, conf, exit, h, s)?)?;
+    for s in t.histories() {
+        push_some(&mut kept, kept_by(alloc, t, conf, exit, h, *s)?)?;
     }
     Ok(kept)
 }
