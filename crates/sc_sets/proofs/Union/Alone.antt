@@ -14,7 +14,7 @@ use Rattle.sc_sets.proofs.Union.Numbers.{any-joined, joined-with, with-less, wit
 use Rattle.std.specs.List.{AllByRecursion as AllOf}
 use Rattle.sc_sets.proofs.Union.Below.{Fine, HasDefaults, IsKept, IsTree, Keeps, Relation, all-of-map, keeps-down, keeps-each, keeps-then, keeps-up}
 
-noted-keeps : (s : ℕ) (e : EntryTriple) → (noted s e).states ≡ e.states
+pub noted-keeps : (s : ℕ) (e : EntryTriple) → (noted s e).states ≡ e.states
 noted-keeps s e = by (contains e.noted s) where
   by : (v : Bool) → (cond v e (record e { noted = e.noted ++ s ∷ [] })).states ≡ e.states
   by true = refl

@@ -31,7 +31,7 @@ all-three true true false h = absurd (cc)
 all-three true false w h = absurd (cc)
 all-three false v w h = absurd (cc)
 
-none-of : (test : ℕ → Bool) (xs : List ℕ) → list_any test xs ≡ false → AllOf (λ x. test x ≡ false) xs
+pub none-of : (test : ℕ → Bool) (xs : List ℕ) → list_any test xs ≡ false → AllOf (λ x. test x ≡ false) xs
 none-of test [] h = tt
 none-of test (x ∷ xs) h = by (test x) refl h (none-of test xs) where
   by : (v : Bool) → test x ≡ v → (v || list_any test xs) ≡ false → (list_any test xs ≡ false → AllOf (λ y. test y ≡ false) xs)
@@ -55,7 +55,7 @@ active-within c configuration s is h =
     (all-of-map _ _ configuration (λ t e. let l = (both (nat_lt t (state_count c)) (not (is_history c t)) e).0 in grind (arith, nat_tests))
     (all-of-true (λ t. nat_lt t (state_count c) && not (is_history c t)) configuration is.states)) h
 
-ancestors-above : (c : Chart) (s : ℕ) → AllOf (λ a. is_below c s a ≡ true) (ancestors c s)
+pub ancestors-above : (c : Chart) (s : ℕ) → AllOf (λ a. is_below c s a ≡ true) (ancestors c s)
 ancestors-above c s =
     all-reverse _ (numbers_where (λ path. leads_on path (path_of c s)) 0 (state_paths c))
     (numbers-hold (λ a. is_below c s a ≡ true) (λ path. leads_on path (path_of c s)) 0 (state_paths c)

@@ -16,7 +16,7 @@ use Rattle.sc_sets.proofs.Union.FineTargets.{from-all}
 use Rattle.sc_sets.proofs.Union.Kept.{kept-apart}
 
 -- a member has a place
-place-in : (t : ℕ) (ts : List ℕ) → contains ts t ≡ true → (k : ℕ) × ((k < length ts) × (slice_index_or ts k 0 ≡ t))
+pub place-in : (t : ℕ) (ts : List ℕ) → contains ts t ≡ true → (k : ℕ) × ((k < length ts) × (slice_index_or ts k 0 ≡ t))
 place-in t [] h = absurd (cc)
 place-in t (u ∷ ts) h = by (u == t) refl h (place-in t ts) where
   by : (v : Bool) → (u == t) ≡ v → (v || contains ts t) ≡ true
@@ -25,7 +25,7 @@ place-in t (u ∷ ts) h = by (u == t) refl h (place-in t ts) where
   by true e h so = (0, (omega arith, grind (arith, nat_tests)))
   by false e h so = let r = so h in (suc r.0, (omega (arith, r.1.0), r.1.1))
 
-at-place : (ts : List ℕ) (k d : ℕ) → k < length ts → contains ts (slice_index_or ts k d) ≡ true
+pub at-place : (ts : List ℕ) (k d : ℕ) → k < length ts → contains ts (slice_index_or ts k d) ≡ true
 at-place [] k d l = absurd (omega arith)
 at-place (t ∷ ts) zero d l = let hit : (t == t) ≡ true = grind (arith, nat_tests) in ap (λ v. v || contains ts t) hit
 at-place (t ∷ ts) (suc k) d l = later (t == slice_index_or ts k d) (at-place ts k d (omega arith)) where
@@ -33,12 +33,12 @@ at-place (t ∷ ts) (suc k) d l = later (t == slice_index_or ts k d) (at-place t
   later true h = refl
   later false h = h
 
-kept-pairs : (c : Chart) (h : Histories) (configuration ts : List ℕ) → AreKept c h configuration ts → AllPairs (HaveApart c h) ts
+pub kept-pairs : (c : Chart) (h : Histories) (configuration ts : List ℕ) → AreKept c h configuration ts → AllPairs (HaveApart c h) ts
 kept-pairs c h configuration ts is i j d l m =
     kept-apart c h configuration (slice_index_or ts i d) (slice_index_or ts j d) is.legal is.configured (is.active i d (omega arith)) (is.active j d m)
     (is.no_conflict i j d l m)
 
-any-apart : (c : Chart) (h : Histories) (ts : List ℕ) → AllPairs (HaveApart c h) ts → AnyApart c h ts
+pub any-apart : (c : Chart) (h : Histories) (ts : List ℕ) → AllPairs (HaveApart c h) ts → AnyApart c h ts
 any-apart c h ts pairs t u in_t in_u =
     let i = place-in t ts in_t in
     let j = place-in u ts in_u in

@@ -1,0 +1,12 @@
+pub mod Again
+pub mod Downs
+pub mod Faultless
+pub mod Fills
+pub mod Gains
+pub mod Lawful
+pub mod Lists
+pub mod Meets
+pub mod Orthogonal
+pub mod SomeTargets
+pub mod Tree
+pub mod Weights
