@@ -1,4 +1,5 @@
 pub mod Again
+pub mod Calms
 pub mod Downs
 pub mod Faultless
 pub mod Fills
@@ -8,5 +9,6 @@ pub mod Lists
 pub mod Meets
 pub mod Orthogonal
 pub mod SomeTargets
+pub mod Together
 pub mod Tree
 pub mod Weights

@@ -109,7 +109,7 @@ region-clear c a k e legal m parallel kid calm has none z i = (by (is_below c z 
 
   by : (v : Bool) → is_below c z a ≡ v → Agree c k z
   by true low = record { same = inner low }
-  by false not = agree-down c a z k legal (omega arith) (inr kid.below) (λ low. absurd (cc)) (calm a z has i)
+  by false high = agree-down c a z k legal (omega arith) (inr kid.below) (λ low. absurd (cc)) (calm a z has i)
 
 calm-regions : (c : Chart) (h : Histories) (d a : ℕ) (enters : Enters) → legal_fault c ≡ None → a < state_count c → is_parallel c a ≡ true
     → ((s : ℕ) → Steady (enters s)) → ((k : ℕ) → contains (children c a) k ≡ true → Calms c enters k) → (e : EntryTriple) → IsCalm c e → Has e a
@@ -201,7 +201,7 @@ calm-firsts c h d [] enters legal sinks steady calms pairs e calm all = calm
 calm-firsts c h d (s ∷ ss) enters legal sinks steady calms pairs e calm all =
     calm-firsts c h d ss enters legal (λ t i. sinks t (has-later s t ss i)) steady (λ t i. calms t (has-later s t ss i)) pairs.1 (enters s e) (next all.0)
     (all-as (Together c s) (IsOpen c enters e) (IsOpen c enters (enters s e)) ss
-    (λ t both open. open-more c h d s t enters e legal (sinks s (has-first s ss)) (steady s) both open) pairs.0 all.1)
+    (λ t both may. open-more c h d s t enters e legal (sinks s (has-first s ss)) (steady s) both may) pairs.0 all.1)
   where
     next : IsOpen c enters e s → IsCalm c (enters s e)
     next (inl clear) = calms s (has-first s ss) e calm clear
@@ -247,8 +247,11 @@ calm-settle c h d n s enters lawful ready steady quiet state below light e calm 
   number : s < state_count c
   number = below-number c s d below
 
+  within : s ≤ state_count c
+  within = number-below c s d below
+
   lighter : (t : ℕ) → is_below c t s ≡ true → weight c t ≤ n
-  lighter t low = let l = lighter-below c t s lawful.legal (omega arith) state low in omega arith
+  lighter t low = let l = lighter-below c t s lawful.legal within state low in omega arith
 
   calm-kid : (a k : ℕ) → Under c a s → contains (children c a) k ≡ true → Calms c enters k
   calm-kid a k low i =
@@ -269,7 +272,7 @@ calm-settle c h d n s enters lawful ready steady quiet state below light e calm 
   seat-under : (t : ℕ) → t < state_count c → is_below c t s ≡ true → Under c (seat c t) s
   seat-under t l low = at (is_history c t) refl where
     at : (v : Bool) → is_history c t ≡ v → Under c (seat c t) s
-    at true f = subst (λ k. Under c k s) (sym (seat-history c t f)) (between c t s lawful.legal l (omega arith) low)
+    at true f = subst (λ k. Under c k s) (sym (seat-history c t f)) (between c t s lawful.legal l within low)
     at false f = subst (λ k. Under c k s) (sym (seat-state c t f)) (inr low)
 
   by : (v w : Bool) → is_compound c s ≡ v → is_parallel c s ≡ w
@@ -281,7 +284,7 @@ calm-settle c h d n s enters lawful ready steady quiet state below light e calm 
       (λ a k low m. calm-kid a k (inr low) m) (defaults-together c s lawful.legal (inl i))
       (λ u k a high low. (let r = stands-below c h u a lawful (number-below c a s low) (default-is c s u lawful.legal i k).0 high in (u, (r.0, (k, (r.1.0, r.1.1))))))
       started first
-      (λ t k. (let is = default-is c s t lawful.legal i k in clear-added c e s (seat c t) lawful.legal (omega arith) (seat-under t is.0 is.1) clear))
+      (λ t k. (let is = default-is c s t lawful.legal i k in clear-added c e s (seat c t) lawful.legal within (seat-under t is.0 is.1) clear))
   by false true i j = calm-regions c h d s enters lawful.legal number j steady (λ k m. calm-kid s k (inl refl) m) (added s e) first (has-added s e.states)
   by false false i j = first
 

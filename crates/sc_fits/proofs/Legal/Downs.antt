@@ -58,10 +58,10 @@ pub zone-history : (c : Chart) (d t x p : ℕ) → is_history c t ≡ true → b
 zone-history c d t x p history bound h = subst (λ v. ZoneBy v c d t x) (sym history) (subst (λ b. is_below c x b ≡ true) (sym bound) h)
 
 pub bound-parent : (c : Chart) (d t : ℕ) → is_below c d (parent_of c t) ≡ false → bound_of c d t ≡ parent_of c t
-bound-parent c d t no = ap (λ v. cond v d (parent_of c t)) no
+bound-parent c d t out = ap (λ v. cond v d (parent_of c t)) out
 
 pub bound-domain : (c : Chart) (d t : ℕ) → is_below c d (parent_of c t) ≡ true → bound_of c d t ≡ d
-bound-domain c d t yes = ap (λ v. cond v d (parent_of c t)) yes
+bound-domain c d t deep = ap (λ v. cond v d (parent_of c t)) deep
 
 -- ---- what targets stand for
 
@@ -171,14 +171,14 @@ default-is c s t legal compound i = (
   each-has (λ x. is_below c x s ≡ true) t (defaults c s) (compound-defaults c s legal compound) i,
 )
 
-default-target : (c : Chart) (h : Histories) (d s t : ℕ) → IsLawful c h → is_compound c s ≡ true → is_below c s d ≡ true → contains (defaults c s) t ≡ true
+pub default-target : (c : Chart) (h : Histories) (d s t : ℕ) → IsLawful c h → is_compound c s ≡ true → is_below c s d ≡ true → contains (defaults c s) t ≡ true
     → IsTarget c h d t
 default-target c h d s t lawful compound below i = record {
   number = (default-is c s t lawful.legal compound i).0;
   fine = each-has (Fine c h d) t (defaults c s) ((has-defaults c h lawful.legal lawful.recorded).fine d s compound below) i;
 }
 
-kids-sink : (c : Chart) (h : Histories) (d n b : ℕ) (enters : Enters) → legal_fault c ≡ None → Ready c h d n enters
+pub kids-sink : (c : Chart) (h : Histories) (d n b : ℕ) (enters : Enters) → legal_fault c ≡ None → Ready c h d n enters
     → ((k : ℕ) → is_history c k ≡ false → is_below c k b ≡ true → (is_below c k d ≡ true) × (weight c k ≤ n)) → SinkKids c h d enters b
 kids-sink c h d n b enters legal ready light a k low is =
     let kid = kid-is c a k legal (number-below c a b low) is in
@@ -318,7 +318,7 @@ down-gains c h d n t lawful ready target light e = by (is_history c t) refl wher
   by false state = ((opened state).gains, (λ u i. subst (λ k. Has (settle_in c (down c h d n) t e) k)
       (only u (subst (λ us. contains us u ≡ true) (stands-own c h t state) i)) (opened state).has)) where
     only : (u : ℕ) → contains (t ∷ []) u ≡ true → t ≡ u
-    only u i = elim (has-cases t u [] i) [ inl e ↦ e | inr no ↦ absurd (cc) ]
+    only u i = elim (has-cases t u [] i) [ inl e ↦ e | inr none ↦ absurd (cc) ]
 
 -- each level of the recursion enters what needs no more levels
 pub down-sinks : (c : Chart) (h : Histories) (d n : ℕ) → IsLawful c h → Ready c h d n (down c h d n)

@@ -134,6 +134,7 @@ holds-numbered t kid n h = absurd (cc)
 
 -- nothing holds a root element
 holds-none : (t : Tag) → may_hold t tag.Scxml ≡ true → ⊥
+holds-none tag.Scxml h = cc
 holds-none t h = cc
 
 first-of-five : (u v w x y : Bool) → (u || v || w || x || y) ≡ false → u ≡ false

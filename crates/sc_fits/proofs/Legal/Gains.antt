@@ -100,23 +100,25 @@ pub record GainsEach (P R : Property) (xs : List ℕ) (e f : EntryTriple) : Type
   pub gains : Gains P e f
   pub each : (s : ℕ) → contains xs s ≡ true → R s f
 
+gains-first : (P R : Property) → Stays P → Stays R → (x : ℕ) (xs : List ℕ) (e f g : EntryTriple) → Gains P e f → R x f → GainsEach P R xs f g
+    → GainsEach P R (x ∷ xs) e g
+gains-first P R stays also x xs e f g first own rest = record {
+  gains = gains-then P stays e f g first rest.gains;
+  each = λ s h. elim (has-cases x s xs h) [
+    | inl same ↦ subst (λ k. R k g) same (also x f g rest.gains.more own)
+    | inr later ↦ rest.each s later
+  ];
+}
+
 pub each-gains : (P R : Property) (before : EntryTriple → Type 0) → Stays P → Stays R → ((e f : EntryTriple) → HasMore e f → before e → before f)
     → (step : Enters) (xs : List ℕ)
     → ((s : ℕ) → contains xs s ≡ true → (e : EntryTriple) → before e → (Gains P e (step s e)) × R s (step s e))
     → (e : EntryTriple) → before e → GainsEach P R xs e (each step xs e)
 each-gains P R before stays also keeps step [] one e is = record { gains = gains-none P e; each = λ s h. absurd (cc) }
-each-gains P R before stays also keeps step (x ∷ xs) one e is = record {
-  gains = gains-then P stays e (step x e) (each step xs (step x e)) here.0 rest.gains;
-  each = λ s h. elim (has-cases x s xs h) [
-    | inl same ↦ subst (λ k. R k (each step xs (step x e))) same (also x (step x e) (each step xs (step x e)) rest.gains.more here.1)
-    | inr later ↦ rest.each s later
-  ];
-} where
-  here : (Gains P e (step x e)) × R x (step x e)
-  here = one x (has-first x xs) e is
-
-  rest : GainsEach P R xs (step x e) (each step xs (step x e))
-  rest = each-gains P R before stays also keeps step xs (λ s h. one s (has-later x s xs h)) (step x e) (keeps e (step x e) here.0.more is)
+each-gains P R before stays also keeps step (x ∷ xs) one e is =
+    let here = one x (has-first x xs) e is in
+    gains-first P R stays also x xs e (step x e) (each step xs (step x e)) here.0 here.1
+    (each-gains P R before stays also keeps step xs (λ s h. one s (has-later x s xs h)) (step x e) (keeps e (step x e) here.0.more is))
 
 -- ---- a state with what is below it
 

@@ -84,14 +84,14 @@ pub record IsNamed (c : Chart) (ids : List (List ℕ)) : Type 0 where
   pub orthogonal : all_orthogonal c (targets c ids) ≡ true
 
 pub initial-element : (c : Chart) (s : ℕ) (n : Node) → legal_fault c ≡ None → IsElement c s n → has_initial n ≡ true → IsNamed c (initial_ids (kids n))
-initial-element c s n legal el has =
-    let found = initial-kid (kids n) has in
+initial-element c s n legal el some =
+    let found = initial-kid (kids n) some in
     let k = found.0 in
     let kid = found.1.0 in
     let q = path_of c s ++ k ∷ [] in
     let at_kid = kid-at c.root n kid (path_of c s) k el.at found.1.1.0 in
     let is_kid : element c q ≡ kid = ap (λ (o : Option Node). unwrap_or o c.root) at_kid in
-    let bad = last-initial (is_root q && not (has_states (element c q))) (has_attribute q) _ (legal-path c q kid legal at_kid).initial in
+    let bad = last-initial (is_root q && not (has_states (element c q))) (misplaced q) _ (legal-path c q kid legal at_kid).initial in
     let fine = and-true (is_tag tag.Initial (tag_of (element c q))) (is_bad_element c q) bad
     (ap (λ (m : Node). is_tag tag.Initial (tag_of m)) is_kid ∙ found.1.1.1.0) in
     let ids = given (default_ids (element c q)) _ fine in
@@ -103,8 +103,8 @@ initial-element c s n legal el has =
       orthogonal = not-false _ (neither _ _ good).1;
     })
   where
-    has_attribute : Path → Bool
-    has_attribute r = has attribute.Initial (element c r) && is_bad_member c r (element c r) (tag_of (element c r))
+    misplaced : Path → Bool
+    misplaced r = has attribute.Initial (element c r) && is_bad_member c r (element c r) (tag_of (element c r))
 
 -- ---- its children
 

@@ -1,6 +1,7 @@
 -- Parents, children and ancestors in the tree of a legal chart, by their numbers.
-use Rattle.std.proofs.Common.{◌≡◌, ◌⊎◌, inl, inr, ℕ, ◌+◌, ◌-◌, ◌<◌, ◌≤◌, ◌&&◌, not, zero, suc, Bool, true, false, cond, Option, Some, None, unwrap_or, List, [], ◌∷◌, ◌++◌, filter, length, get_or, reverse, refl, arith, ap, ap₂, sym, subst, ◌∙◌}
+use Rattle.std.proofs.Common.{◌≡◌, ◌⊎◌, inl, inr, ℕ, ◌+◌, ◌-◌, ◌<◌, ◌≤◌, ◌==◌, ◌&&◌, not, zero, suc, Bool, true, false, cond, Option, Some, None, unwrap_or, List, [], ◌∷◌, ◌++◌, filter, length, get_or, reverse, refl, arith, ap, ap₂, sym, subst, ◌∙◌}
 use Rattle.std.proofs.lemmas.Bool.{cases_lt, cases_order}
+use Rattle.std.proofs.lemmas.Bool.Decides.{nat_tests}
 use Rattle.std.proofs.lemmas.List.{reverse-append}
 use Rattle.std.proofs.lemmas.Slice.Eq.{bytes_eq-Decides}
 use Rattle.std.specs.List.{AllByRecursion as AllOf, list_any}
@@ -242,7 +243,7 @@ kid-is c a k legal m h = record {
 
 some-root : (p : Path) → 0 < length p → not (is_root p) ≡ true
 some-root [] h = absurd (omega arith)
-some-root (x ∷ p) h = refl
+some-root (x ∷ p) h = let t : (suc (length p) == 0) ≡ false = grind (arith, nat_tests) in ap not t
 
 -- a state is among the children of its parent
 pub is-kid : (c : Chart) (s : ℕ) → legal_fault c ≡ None → s < state_count c → is_history c s ≡ false → contains (children c (parent_of c s)) s ≡ true

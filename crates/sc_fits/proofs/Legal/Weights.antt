@@ -32,14 +32,14 @@ count-less p q (suc n) h =
     let m = count-less p q n h in omega arith
 
 count-fewer : (p q : ℕ → Bool) (n k : ℕ) → ((x : ℕ) → p x ≡ true → q x ≡ true) → k < n → p k ≡ false → q k ≡ true → count p n < count q n
-count-fewer p q zero k h l no yes = absurd (omega arith)
-count-fewer p q (suc n) k h l no yes = elim (cases_order k n) [
-  | inl e ↦ (let none : one-if (p n) ≡ 0 = zero-if (p n) (sym (ap p e) ∙ no) in
-      let one : one-if (q n) ≡ 1 = some-if (q n) (sym (ap q e) ∙ yes) in
+count-fewer p q zero k h l out in-it = absurd (omega arith)
+count-fewer p q (suc n) k h l out in-it = elim (cases_order k n) [
+  | inl e ↦ (let none : one-if (p n) ≡ 0 = zero-if (p n) (sym (ap p e) ∙ out) in
+      let one : one-if (q n) ≡ 1 = some-if (q n) (sym (ap q e) ∙ in-it) in
       let m = count-less p q n h in omega arith)
   | inr o ↦ elim o [
     | inl less ↦ (let m = one-less (p n) (q n) (h n) in
-        let rest = count-fewer p q n k h less no yes in omega arith)
+        let rest = count-fewer p q n k h less out in-it in omega arith)
     | inr more ↦ absurd (omega arith)
   ]
 ] where
