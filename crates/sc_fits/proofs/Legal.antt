@@ -2,12 +2,14 @@ pub mod Again
 pub mod Calms
 pub mod Downs
 pub mod Faultless
+pub mod Filling
 pub mod Fills
 pub mod Gains
 pub mod Lawful
 pub mod Lists
 pub mod Meets
 pub mod Orthogonal
+pub mod Plans
 pub mod SomeTargets
 pub mod Together
 pub mod Tree

@@ -260,7 +260,7 @@ calm-settle c h d n s enters lawful ready steady quiet state below light e calm 
       quiet k (state-target c h d k kid.state (above-on c k s d deep below)) (lighter k deep)
     where
       under-number : (x : ℕ) → Under c x s → x ≤ state_count c
-      under-number x (inl e) = omega (arith, e)
+      under-number x (inl e) = let n = within in omega (arith, e)
       under-number x (inr j) = number-below c x s j
 
   started : EntryTriple

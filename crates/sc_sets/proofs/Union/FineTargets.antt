@@ -179,7 +179,7 @@ fine-history c h d t (u ∷ us) e low recalled =
       by (inr (inl above)) other = inl above
       by (inr (inr same)) other = inr (sym same)
 
-fine-target : (c : Chart) (h : Histories) (d t : ℕ) → legal_fault c ≡ None → AllOf (IsRecorded c) h → t < state_count c
+pub fine-target : (c : Chart) (h : Histories) (d t : ℕ) → legal_fault c ≡ None → AllOf (IsRecorded c) h → t < state_count c
     → AllOf (λ u. is_below c u d ≡ true) (stands_for c h t) → Fine c h d t
 fine-target c h d t legal all l low = by (is_history c t) refl where
   by : (v : Bool) → is_history c t ≡ v → Fine c h d t
