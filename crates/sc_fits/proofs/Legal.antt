@@ -8,6 +8,7 @@ pub mod Gains
 pub mod Lawful
 pub mod Lists
 pub mod Meets
+pub mod Microsteps
 pub mod Orthogonal
 pub mod Plans
 pub mod SomeTargets
