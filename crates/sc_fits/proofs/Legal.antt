@@ -6,12 +6,14 @@ pub mod Filling
 pub mod Fills
 pub mod Gains
 pub mod Lawful
+pub mod Law
 pub mod Lists
 pub mod Meets
 pub mod Microsteps
 pub mod Orthogonal
 pub mod Plans
 pub mod SomeTargets
+pub mod Tables
 pub mod Together
 pub mod Tree
 pub mod Weights

@@ -265,7 +265,7 @@ entry-has c h configuration ts s d f kept is i =
 -- ---- exits
 
 -- an active state below a domain is exited
-exit-has : (c : Chart) (h : Histories) (configuration ts : List ℕ) (s t d : ℕ) → contains configuration s ≡ true → contains ts t ≡ true → domain c h t ≡ Some d
+pub exit-has : (c : Chart) (h : Histories) (configuration ts : List ℕ) (s t d : ℕ) → contains configuration s ≡ true → contains ts t ≡ true → domain c h t ≡ Some d
     → is_below c s d ≡ true → contains (exit_set c h ts configuration) s ≡ true
 unfolding exit_set
 exit-has c h configuration ts s t d active i is low =
