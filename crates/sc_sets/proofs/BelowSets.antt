@@ -77,7 +77,7 @@ pub root_keeps : (c : Chart) (ns : List ℕ) → legal_fault c ≡ None → All 
 root_keeps c ns legal within =
     filter_all (λ s. is_below c s (root c)) ns (λ k l. below_root_is c (get_or ns k 0) legal (All-get_or (λ (s : ℕ). s < state_count c) ns k 0 l within))
 
-pub no_kind : (n : Node) (t : Tag) → is_numbered t ≡ false → kind_at n t ≡ None
+no_kind : (n : Node) (t : Tag) → is_numbered t ≡ false → kind_at n t ≡ None
 no_kind n tag.State h = absurd (cc)
 no_kind n tag.Parallel h = absurd (cc)
 no_kind n tag.Final h = absurd (cc)

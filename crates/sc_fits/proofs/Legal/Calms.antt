@@ -11,7 +11,7 @@ use Rattle.sc_law.specs.Configurations.{children, defaults, parent_of}
 use Rattle.sc_law.specs.Sets.{Histories, stands_for, value_of_history}
 use Rattle.sc_law.specs.Entry.{EntryTriple, Enters, added, bound_of, by_default, down, is_begun, noted, reach, recall, region, regions, settle_in, through, up}
 use Rattle.sc_sets.proofs.Union.Above.{below-number}
-use Rattle.sc_sets.proofs.Union.Alone.{noted-keeps}
+use Rattle.sc_sets.proofs.Union.Alone.{all-both, noted-keeps}
 use Rattle.sc_sets.proofs.Union.Below.{below-within}
 use Rattle.sc_sets.proofs.Union.Forks.{is-tree}
 use Rattle.sc_sets.proofs.Union.Kept.{each-has}
@@ -111,10 +111,10 @@ region-clear c a k e legal m parallel kid calm has none z i = (by (is_below c z 
   by true low = record { same = inner low }
   by false high = agree-down c a z k legal (omega arith) (inr kid.below) (λ low. absurd (cc)) (calm a z has i)
 
-calm-regions : (c : Chart) (h : Histories) (d a : ℕ) (enters : Enters) → legal_fault c ≡ None → a < state_count c → is_parallel c a ≡ true
+calm-regions : (c : Chart) (a : ℕ) (enters : Enters) → legal_fault c ≡ None → a < state_count c → is_parallel c a ≡ true
     → ((s : ℕ) → Steady (enters s)) → ((k : ℕ) → contains (children c a) k ≡ true → Calms c enters k) → (e : EntryTriple) → IsCalm c e → Has e a
     → IsCalm c (regions c enters a e)
-calm-regions c h d a enters legal m parallel steady calms e calm has =
+calm-regions c a enters legal m parallel steady calms e calm has =
     (keeps-each (λ f. (IsCalm c f) × Has f a) (region c enters) (children c a) one e (calm, has)).0 where
       one : (k : ℕ) → contains (children c a) k ≡ true → (f : EntryTriple) → (IsCalm c f) × Has f a → (IsCalm c (region c enters k f)) × Has (region c enters k f) a
       one k i f is = by (is_begun c f k) refl where
@@ -131,10 +131,10 @@ calm-regions c h d a enters legal m parallel steady calms e calm has =
 
 -- ---- upward
 
-calm-through : (c : Chart) (h : Histories) (d a : ℕ) (enters : Enters) → legal_fault c ≡ None → a < state_count c
+calm-through : (c : Chart) (a : ℕ) (enters : Enters) → legal_fault c ≡ None → a < state_count c
     → ((s : ℕ) → Steady (enters s)) → ((k : ℕ) → contains (children c a) k ≡ true → Calms c enters k) → (e : EntryTriple) → IsCalm c e
     → is_begun c e a ≡ true → IsCalm c (through c enters a e)
-calm-through c h d a enters legal m steady calms e calm begun = by (is_parallel c a) refl where
+calm-through c a enters legal m steady calms e calm begun = by (is_parallel c a) refl where
   some : (x : ℕ) × ((Has e x) × (is_below c x a ≡ true))
   some = begun-some c e a begun
 
@@ -142,32 +142,32 @@ calm-through c h d a enters legal m steady calms e calm begun = by (is_parallel 
   first = calm-added c e a legal calm (λ z i. agree-up c some.0 z a (inr some.1.1) (calm some.0 z some.1.0 i))
 
   by : (v : Bool) → is_parallel c a ≡ v → IsCalm c ((cond v (regions c enters a) (λ (x : EntryTriple). x)) (added a e))
-  by true t = calm-regions c h d a enters legal m t steady calms (added a e) first (has-added a e.states)
+  by true t = calm-regions c a enters legal m t steady calms (added a e) first (has-added a e.states)
   by false t = first
 
 -- steps that keep calm for all children of the states below a bound
 abbrev pub CalmKids : Chart → Enters → ℕ → Type 0
 CalmKids c enters b = (a k : ℕ) → is_below c a b ≡ true → contains (children c a) k ≡ true → Calms c enters k
 
-calm-up : (c : Chart) (h : Histories) (d b s : ℕ) (enters : Enters) → legal_fault c ≡ None → ((s : ℕ) → Steady (enters s)) → CalmKids c enters b
+calm-up : (c : Chart) (b s : ℕ) (enters : Enters) → legal_fault c ≡ None → ((s : ℕ) → Steady (enters s)) → CalmKids c enters b
     → (e : EntryTriple) → IsCalm c e → Rises c b s e → IsCalm c (up c enters b s e)
-calm-up c h d b s enters legal steady kids e calm rises =
+calm-up c b s enters legal steady kids e calm rises =
     (keeps-each (λ f. (IsCalm c f) × Rises c b s f) (through c enters) (filter (λ a. is_below c a b) (ancestors c s)) one e (calm, rises)).0 where
       one : (a : ℕ) → contains (filter (λ a. is_below c a b) (ancestors c s)) a ≡ true → (f : EntryTriple) → (IsCalm c f) × Rises c b s f
           → (IsCalm c (through c enters a f)) × Rises c b s (through c enters a f)
       one a i f is =
           let parts = contains-filter (λ a. is_below c a b) a (ancestors c s) i in
           let above = ancestor-is c s a parts.0 in (
-            calm-through c h d a enters legal above.0 steady (λ k j. kids a k parts.1 j) f is.0 (is.1 a above.1 parts.1),
+            calm-through c a enters legal above.0 steady (λ k j. kids a k parts.1 j) f is.0 (is.1 a above.1 parts.1),
             λ x j k. begun-more c f (through c enters a f) x ((steady-through c enters a steady).grows f) (is.1 x j k),
           )
 
-pub calm-ups : (c : Chart) (h : Histories) (d b : ℕ) (us : List ℕ) (enters : Enters) → legal_fault c ≡ None → ((s : ℕ) → Steady (enters s)) → CalmKids c enters b
+calm-ups : (c : Chart) (b : ℕ) (us : List ℕ) (enters : Enters) → legal_fault c ≡ None → ((s : ℕ) → Steady (enters s)) → CalmKids c enters b
     → (e : EntryTriple) → IsCalm c e → ((u : ℕ) → contains us u ≡ true → Rises c b u e) → IsCalm c (each (up c enters b) us e)
-calm-ups c h d b us enters legal steady kids e calm rises =
+calm-ups c b us enters legal steady kids e calm rises =
     (keeps-each (λ f. (IsCalm c f) × ((u : ℕ) → contains us u ≡ true → Rises c b u f)) (up c enters b) us
     (λ u i f is. (
-      calm-up c h d b u enters legal steady kids f is.0 (is.1 u i),
+      calm-up c b u enters legal steady kids f is.0 (is.1 u i),
       λ w j x k l. begun-more c f (up c enters b u f) x ((steady-up c enters b u steady).grows f) (is.1 w j x k l),
     )) e (calm, rises)).0
 
@@ -190,17 +190,13 @@ open-more c h d s t enters e legal sinks steady (inl apart) (inl clear) = inl (�
 open-more c h d s t enters e legal sinks steady (inr same) o = inr (e, subst (λ k. HasMore (enters k e) (enters s e)) same (λ x i. i))
 open-more c h d s t enters e legal sinks steady (inl apart) (inr was) = inr (was.0, λ x i. steady.grows e x (was.1 x i))
 
-all-as : (P Q R : ℕ → Type 0) (xs : List ℕ) → ((x : ℕ) → P x → Q x → R x) → AllOf P xs → AllOf Q xs → AllOf R xs
-all-as P Q R [] f h i = tt
-all-as P Q R (x ∷ xs) f h i = (f x h.0 i.0, all-as P Q R xs f h.1 i.1)
-
 calm-firsts : (c : Chart) (h : Histories) (d : ℕ) (ss : List ℕ) (enters : Enters) → legal_fault c ≡ None
     → ((t : ℕ) → contains ss t ≡ true → Sinks c h d enters t) → ((s : ℕ) → Steady (enters s)) → ((t : ℕ) → contains ss t ≡ true → Calms c enters t)
     → Pairs (Together c) ss → (e : EntryTriple) → IsCalm c e → AllOf (IsOpen c enters e) ss → IsCalm c (each enters ss e)
 calm-firsts c h d [] enters legal sinks steady calms pairs e calm all = calm
 calm-firsts c h d (s ∷ ss) enters legal sinks steady calms pairs e calm all =
     calm-firsts c h d ss enters legal (λ t i. sinks t (has-later s t ss i)) steady (λ t i. calms t (has-later s t ss i)) pairs.1 (enters s e) (next all.0)
-    (all-as (Together c s) (IsOpen c enters e) (IsOpen c enters (enters s e)) ss
+    (all-both (Together c s) (IsOpen c enters e) (IsOpen c enters (enters s e)) ss
     (λ t both may. open-more c h d s t enters e legal (sinks s (has-first s ss)) (steady s) both may) pairs.0 all.1)
   where
     next : IsOpen c enters e s → IsCalm c (enters s e)
@@ -219,7 +215,7 @@ pub calm-targets : (c : Chart) (h : Histories) (d b : ℕ) (ss us : List ℕ) (e
     → (t : ℕ) × ((w : ℕ) × ((contains ss t ≡ true) × ((contains (stands_for c h t) w ≡ true) × (is_below c w a ≡ true)))))
     → (e : EntryTriple) → IsCalm c e → ((t : ℕ) → contains ss t ≡ true → IsClear c e (seat c t)) → IsCalm c (each (up c enters b) us (each enters ss e))
 calm-targets c h d b ss us enters legal sinks steady calms kids pairs seen e calm clear =
-    calm-ups c h d b us enters legal steady kids (each enters ss e)
+    calm-ups c b us enters legal steady kids (each enters ss e)
     (calm-firsts c h d ss enters legal sinks steady calms pairs e calm (all-clear c enters e ss clear))
     (λ u i a j k. (let from = seen u i a j k in
     begun-by c (each enters ss e) from.1.0 a (in-each from.0 from.1.0 ss e from.1.1.0 (λ f. (sinks from.0 from.1.1.0).entered f from.1.0 from.1.1.1.0)) from.1.1.1.1))
@@ -285,7 +281,7 @@ calm-settle c h d n s enters lawful ready steady quiet state below light e calm 
       (λ u k a high low. (let r = stands-below c h u a lawful (number-below c a s low) (default-is c s u lawful.legal i k).0 high in (u, (r.0, (k, (r.1.0, r.1.1))))))
       started first
       (λ t k. (let is = default-is c s t lawful.legal i k in clear-added c e s (seat c t) lawful.legal within (seat-under t is.0 is.1) clear))
-  by false true i j = calm-regions c h d s enters lawful.legal number j steady (λ k m. calm-kid s k (inl refl) m) (added s e) first (has-added s e.states)
+  by false true i j = calm-regions c s enters lawful.legal number j steady (λ k m. calm-kid s k (inl refl) m) (added s e) first (has-added s e.states)
   by false false i j = first
 
 -- ---- entering a history

@@ -13,8 +13,8 @@ use Rattle.sc_law.specs.Tree.{has_states, path_of, state_count, state_paths}
 use Rattle.sc_law.specs.Legality.{fault_at, first_fault, has_bad_targets, is_bad_child, is_bad_kid, is_single, has_earlier, is_among, is_in_finalize, has_kid, legal_fault, may_hold, number_at, tests}
 use Rattle.sc_tables.proofs.LookUps.{path-is}
 use Rattle.sc_sets.proofs.Union.LegalDefaults.{kid-no-root, neither, not-false, parent-of-kid}
-use Rattle.sc_sets.proofs.Union.LegalElements.{element-has, no-number, no-test, none-found, state-node}
-use Rattle.sc_fits.proofs.Legal.Lists.{any-at}
+use Rattle.sc_sets.proofs.Union.LegalElements.{element-has, no-number, no-test, none-first, none-found, state-node}
+use Rattle.sc_fits.proofs.Legal.Lists.{any-at, first-of-five}
 
 -- an element without these two faults
 pub record IsPlaced (c : Chart) (p : Path) : Type 0 where
@@ -26,10 +26,6 @@ placed-at c p h =
     let number = no-number (number_at c p) p h in
     let each = none-found (λ (t : ℕ × (Chart → Path → Bool)). t.1 c p) tests (no-test _ number) in
     record { targets = each.1.1.1.1.0; child = each.1.1.1.1.1.1.0 }
-
-none-first : (o later : Option ChartFault) → option_map_or Some o later ≡ None → (o ≡ None) × (later ≡ None)
-none-first None later h = (refl, h)
-none-first (Some f) later h = absurd (cc)
 
 placed-all : (c : Chart) (ps : List Path) → first_fault c ps ≡ None → AllOf (IsPlaced c) ps
 placed-all c [] h = tt
@@ -136,10 +132,6 @@ holds-numbered t kid n h = absurd (cc)
 holds-none : (t : Tag) → may_hold t tag.Scxml ≡ true → ⊥
 holds-none tag.Scxml h = cc
 holds-none t h = cc
-
-first-of-five : (u v w x y : Bool) → (u || v || w || x || y) ≡ false → u ≡ false
-first-of-five true v w x y h = absurd (cc)
-first-of-five false v w x y h = refl
 
 may-hold : (c : Chart) (p : Path) → is_root p ≡ false → is_bad_child c p ≡ false
     → may_hold (tag_of (element c (parent p))) (tag_of (element c p)) ≡ true

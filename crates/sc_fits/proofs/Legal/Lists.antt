@@ -1,5 +1,5 @@
 -- Members of lists, and lists with exactly one item that passes a test.
-use Rattle.std.proofs.Common.{◌≡◌, ◌⊎◌, inl, inr, ℕ, ◌+◌, ◌<◌, ◌≤◌, ◌==◌, ◌&&◌, ◌||◌, zero, suc, Bool, true, false, cond, Option, Some, None, List, [], ◌∷◌, ◌++◌, filter, length, get_or, slice_get, refl, arith, ap, sym, subst, ◌∙◌}
+use Rattle.std.proofs.Common.{◌≡◌, ◌⊎◌, inl, inr, ℕ, ◌+◌, ◌<◌, ◌≤◌, ◌==◌, ◌&&◌, ◌||◌, not, zero, suc, Bool, true, false, cond, Option, Some, None, List, [], ◌∷◌, ◌++◌, filter, length, get_or, slice_get, refl, arith, ap, sym, subst, ◌∙◌}
 use Rattle.std.proofs.lemmas.Bool.Decides.{nat_tests}
 use Rattle.std.specs.List.{AllByRecursion as AllOf, list_all, list_any}
 use Rattle.sc_base.specs.Ascending.{contains, with_number}
@@ -22,6 +22,14 @@ or-cases false w h = inr h
 pub and-both : (v w : Bool) → v ≡ true → w ≡ true → (v && w) ≡ true
 and-both true w h i = i
 and-both false w h i = absurd (cc)
+
+pub or-right-of : (v w : Bool) → (not v || w) ≡ true → v ≡ true → w ≡ true
+or-right-of true w h e = h
+or-right-of false w h e = absurd (cc)
+
+pub first-of-five : (u v w x y : Bool) → (u || v || w || x || y) ≡ false → u ≡ false
+first-of-five true v w x y h = absurd (cc)
+first-of-five false v w x y h = refl
 
 pub has-first : (x : ℕ) (xs : List ℕ) → contains (x ∷ xs) x ≡ true
 has-first x xs = let hit : (x == x) ≡ true = grind (arith, nat_tests) in ap (λ v. v || contains xs x) hit
@@ -208,12 +216,3 @@ filter-equal f g [] same = refl
 filter-equal f g (x ∷ xs) same =
     ap (λ v. cond v (x ∷ filter f xs) (filter f xs)) (same x (has-first x xs))
     ∙ ap (λ ys. cond (g x) (x ∷ ys) ys) (filter-equal f g xs (λ y h. same y (has-later x y xs h)))
-
-pub some-passes : (test : ℕ → Bool) (xs : List ℕ) → length (filter test xs) ≡ 1 → (x : ℕ) × ((contains xs x ≡ true) × (test x ≡ true))
-some-passes test [] one = absurd (omega (arith, one))
-some-passes test (y ∷ xs) one = by (test y) refl one (some-passes test xs) where
-  by : (v : Bool) → test y ≡ v → length (cond v (y ∷ filter test xs) (filter test xs)) ≡ 1
-      → (length (filter test xs) ≡ 1 → (x : ℕ) × ((contains xs x ≡ true) × (test x ≡ true)))
-      → (x : ℕ) × ((contains (y ∷ xs) x ≡ true) × (test x ≡ true))
-  by true e one so = (y, (has-first y xs, e))
-  by false e one so = let r = so one in (r.0, (has-later y r.0 xs r.1.0, r.1.1))

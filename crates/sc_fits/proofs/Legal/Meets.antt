@@ -53,9 +53,6 @@ pub record IsApart (c : Chart) (u v : ℕ) : Type 0 where
   pub first : u ≤ state_count c
   pub second : v ≤ state_count c
 
-pub apart-back : (c : Chart) (u v : ℕ) → IsApart c u v → IsApart c v u
-apart-back c u v is = record { agree = agree-back c u v is.agree; left = is.right; right = is.left; first = is.second; second = is.first }
-
 -- nothing is in the subtrees of both
 pub apart-none : (c : Chart) (u v x : ℕ) → legal_fault c ≡ None → IsApart c u v → Under c x u → Under c x v → ⊥
 apart-none c u v x legal is h i = elim (forks-under c x u v legal is.first is.second h i) [
@@ -67,19 +64,6 @@ pub apart-agree : (c : Chart) (u v x y : ℕ) → legal_fault c ≡ None → IsA
 apart-agree c u v x y legal is h i =
     agree-back c y x (agree-down c v x y legal is.second i (λ low. apart-none c u v x legal is h (inr low))
     (agree-back c x v (agree-down c u v x legal is.first h (λ low. is.right (inr low)) is.agree)))
-
-under-within : (c : Chart) (x u : ℕ) → u ≤ state_count c → Under c x u → x ≤ state_count c
-under-within c x u l (inl e) = omega (arith, e)
-under-within c x u l (inr low) = number-below c x u low
-
-pub apart-under : (c : Chart) (u v x y : ℕ) → legal_fault c ≡ None → IsApart c u v → Under c x u → Under c y v → IsApart c x y
-apart-under c u v x y legal is h i = record {
-  agree = apart-agree c u v x y legal is h i;
-  left = λ low. apart-none c u v x legal is h (under-on c x y v low i);
-  right = λ low. apart-none c u v y legal is (under-on c y x u low h) i;
-  first = under-within c x u is.first h;
-  second = under-within c y v is.second i;
-}
 
 -- ---- the seats of targets
 

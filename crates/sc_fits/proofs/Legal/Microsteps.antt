@@ -40,7 +40,7 @@ use Rattle.sc_fits.proofs.Legal.Fills.{stands-has}
 use Rattle.sc_fits.proofs.Legal.Filling.{AreTargets, IsFilling, flat-from, flat-has, targets-fill}
 use Rattle.sc_fits.proofs.Legal.Gains.{Has}
 use Rattle.sc_fits.proofs.Legal.Lawful.{IsLawful}
-use Rattle.sc_fits.proofs.Legal.Lists.{any-by, filter-has, has-cases, has-first, has-later, has-with, list-all-has, or-cases, or-right}
+use Rattle.sc_fits.proofs.Legal.Lists.{any-by, filter-has, has-cases, has-first, has-later, has-with, list-all-has, or-cases, or-right, or-right-of}
 use Rattle.sc_fits.proofs.Legal.Meets.{HasOne, Pairs, Together}
 use Rattle.sc_fits.proofs.Legal.Plans.{Domains, IsKept, IsMember, IsPlan}
 use Rattle.sc_fits.proofs.Legal.Together.{active-above, active-one, active-state, named-together}
@@ -290,10 +290,6 @@ either : (v w x : Bool) → (v && not w || x) ≡ true → ((v ≡ true) × (w �
 either true false x h = inl (refl, refl)
 either true true x h = inr h
 either false w x h = inr h
-
-or-right-of : (v w : Bool) → (not v || w) ≡ true → v ≡ true → w ≡ true
-or-right-of true w h e = h
-or-right-of false w h e = absurd (cc)
 
 -- whether a state is the domain of a transition
 decide-domain : (c : Chart) (before h : Histories) (s : ℕ) (ts : List ℕ)

@@ -24,6 +24,7 @@ use Rattle.sc_sets.proofs.Union.LegalElements.{IsSound, legal-path, state-node}
 use Rattle.sc_sets.proofs.Union.Parents.{past-root}
 use Rattle.sc_sets.proofs.Union.SomeDefaults.{HasSome, given, known-ids, named-some}
 use Rattle.sc_fits.proofs.Legal.Faultless.{number-at, placed-path}
+use Rattle.sc_fits.proofs.Legal.Lists.{first-of-five}
 use Rattle.sc_fits.proofs.Legal.Tree.{has-holder, is-kid}
 
 -- a state or the root, as the element that it is
@@ -39,10 +40,6 @@ pub record IsElement (c : Chart) (s : ℕ) (n : Node) : Type 0 where
 first-of-three : (u v w : Bool) → (u || v || w) ≡ false → u ≡ false
 first-of-three true v w h = absurd (cc)
 first-of-three false v w h = refl
-
-first-of-five : (u v w x y : Bool) → (u || v || w || x || y) ≡ false → u ≡ false
-first-of-five true v w x y h = absurd (cc)
-first-of-five false v w x y h = refl
 
 last-of-five : (u v w x y : Bool) → (u || v || w || x || y) ≡ false → y ≡ false
 last-of-five u v w x true h = by u v w x h where

@@ -32,7 +32,7 @@ use Rattle.sc_sets.proofs.Union.NamedStates.{path-named, state-named}
 use Rattle.sc_sets.proofs.Union.Recorded.{contains-filter, find-has}
 use Rattle.sc_sets.proofs.Union.SomeDefaults.{given}
 use Rattle.sc_fits.proofs.Legal.Lawful.{IsLawful}
-use Rattle.sc_fits.proofs.Legal.Lists.{has-first, has-later, list-all-has, one-same, or-cases}
+use Rattle.sc_fits.proofs.Legal.Lists.{has-first, has-later, list-all-has, one-same, or-right-of}
 use Rattle.sc_fits.proofs.Legal.Meets.{Agree, HasOne, IsApart, Pairs, SeatBy, Together, seat}
 use Rattle.sc_fits.proofs.Legal.Orthogonal.{together-all}
 use Rattle.sc_fits.proofs.Legal.SomeTargets.{IsElement, compound-element, initial-attribute, initial-element, root-element}
@@ -120,10 +120,6 @@ pub active-above : (c : Chart) (configuration : List ℕ) (s a : ℕ) → IsConf
 active-above c configuration s a is h l low =
     list-all-has (contains configuration) (ancestors c s) a
     (list-all-has (λ s. list_all (contains configuration) (ancestors c s)) configuration s is.upward h) (is-ancestor c s a l low)
-
-or-right-of : (v w : Bool) → (not v || w) ≡ true → v ≡ true → w ≡ true
-or-right-of true w h e = h
-or-right-of false w h e = absurd (cc)
 
 -- one child of an active compound state, and of the root, is active
 pub active-one : (c : Chart) (configuration : List ℕ) (x : ℕ) → IsConfiguration c configuration → HasOne c x → (is_compound c x ≡ true → IsActive configuration x)

@@ -25,7 +25,7 @@ use Rattle.sc_sets.proofs.Union.Above.{below-number}
 use Rattle.sc_sets.proofs.Union.Apart.{ancestors-within, same-number}
 use Rattle.sc_sets.proofs.Union.Below.{all-of-map}
 use Rattle.sc_sets.proofs.Union.FineTargets.{all-pairs, below-parent}
-use Rattle.sc_sets.proofs.Union.Forks.{both, child-leads, filter-hold, fork, is-tree, not-true, numbers-hold, root-length}
+use Rattle.sc_sets.proofs.Union.Forks.{both, child-leads, filter-hold, fork, is-tree, not-true, numbers-hold}
 use Rattle.sc_sets.proofs.Union.Kept.{ancestors-above, each-has}
 use Rattle.sc_sets.proofs.Union.LegalDefaults.{no-history}
 use Rattle.sc_sets.proofs.Union.LegalElements.{state-node}

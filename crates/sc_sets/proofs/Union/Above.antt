@@ -74,7 +74,7 @@ over-above c t d (s ∷ ss) legal within e = by (is_own_domain c t (s ∷ ss)) r
       subst (λ k. AllOf (λ u. is_below c u k ≡ true) (s ∷ ss)) same
       (near (find (λ a. is_compound c a && is_above_all c (s ∷ ss) a) (ancestors c (source c t))) refl))
 
-pub all-join : (P : ℕ → Type 0) (f : ℕ → List ℕ) (ts : List ℕ) → AllOf (λ t. AllOf P (f t)) ts → AllOf P (flat_map f ts)
+all-join : (P : ℕ → Type 0) (f : ℕ → List ℕ) (ts : List ℕ) → AllOf (λ t. AllOf P (f t)) ts → AllOf P (flat_map f ts)
 all-join P f [] h = tt
 all-join P f (t ∷ ts) h = front (f t) h.0 (all-join P f ts h.1) where
   front : (xs : List ℕ) → AllOf P xs → AllOf P (flat_map f ts) → AllOf P (xs ++ flat_map f ts)

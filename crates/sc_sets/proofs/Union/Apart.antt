@@ -80,7 +80,7 @@ or-root : (c : Chart) (o : Option ℕ) → ((m : ℕ) → o ≡ Some m → m < s
 or-root c None h = omega arith
 or-root c (Some m) h = let l = h m refl in omega arith
 
-pub source-within : (c : Chart) (t : ℕ) → source c t ≤ state_count c
+source-within : (c : Chart) (t : ℕ) → source c t ≤ state_count c
 source-within c t = or-root c _ (λ m e. (position-Some (is_same (parent (path_of_transition c t))) (state_paths c) m [] e).0)
 
 nearest-within : (c : Chart) (s : ℕ) (ss : List ℕ) → nearest_above c s ss ≤ state_count c

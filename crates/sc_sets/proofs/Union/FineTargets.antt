@@ -111,7 +111,7 @@ begins-length (x ∷ p) [] h = absurd (cc)
 begins-length (x ∷ p) (y ∷ q) h = let l : length p ≤ length q = begins-length p q (both (nat_eq x y) (begins p q) h).1 in omega arith
 
 -- the default targets of a history
-pub defaults-below : (c : Chart) (s : ℕ) → legal_fault c ≡ None → s < state_count c → is_history c s ≡ true → AllOf (IsRecalled c s) (defaults c s)
+defaults-below : (c : Chart) (s : ℕ) → legal_fault c ≡ None → s < state_count c → is_history c s ≡ true → AllOf (IsRecalled c s) (defaults c s)
 defaults-below c s legal l is =
     all-of-map _ _ (defaults c s) (λ u t. (t.1.0, below u t.1.1)) (history-defaults c s legal l is) where
       below : (u : ℕ) → leads_on (parent (path_of c s)) (path_of c u) ≡ true → is_below c u (parent_of c s) ≡ true

@@ -45,7 +45,7 @@ filter-hold P test (x ∷ xs) h = by (test x) refl (filter-hold P test xs h.1) w
 
 -- ---- paths
 
-pub root-length : (p : Path) → not (is_root p) ≡ true → 0 < length p
+root-length : (p : Path) → not (is_root p) ≡ true → 0 < length p
 root-length [] h = absurd (cc)
 root-length (x ∷ p) h = omega arith
 

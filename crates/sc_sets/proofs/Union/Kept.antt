@@ -31,7 +31,7 @@ all-three true true false h = absurd (cc)
 all-three true false w h = absurd (cc)
 all-three false v w h = absurd (cc)
 
-pub none-of : (test : ℕ → Bool) (xs : List ℕ) → list_any test xs ≡ false → AllOf (λ x. test x ≡ false) xs
+none-of : (test : ℕ → Bool) (xs : List ℕ) → list_any test xs ≡ false → AllOf (λ x. test x ≡ false) xs
 none-of test [] h = tt
 none-of test (x ∷ xs) h = by (test x) refl h (none-of test xs) where
   by : (v : Bool) → test x ≡ v → (v || list_any test xs) ≡ false → (list_any test xs ≡ false → AllOf (λ y. test y ≡ false) xs)

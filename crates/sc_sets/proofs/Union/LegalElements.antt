@@ -21,7 +21,7 @@ pub record IsSound (c : Chart) (p : Path) : Type 0 where
   pub history : is_bad_history c p ≡ false
 
 -- each fails the test
-abbrev pub FailEach : {A : Type 0} → (A → Bool) → List A → Type 0
+abbrev FailEach : {A : Type 0} → (A → Bool) → List A → Type 0
 FailEach test [] = Unit
 FailEach test (x ∷ xs) = (test x ≡ false) × FailEach test xs
 
@@ -47,7 +47,7 @@ sound-at c p h =
     let each = none-found (λ (t : ℕ × (Chart → Path → Bool)). t.1 c p) tests (no-test _ number) in
     record { known = each.1.0; initial = each.1.1.0; history = each.1.1.1.0 }
 
-none-first : (o later : Option ChartFault) → option_map_or Some o later ≡ None → (o ≡ None) × (later ≡ None)
+pub none-first : (o later : Option ChartFault) → option_map_or Some o later ≡ None → (o ≡ None) × (later ≡ None)
 none-first None later h = (refl, h)
 none-first (Some f) later h = absurd (cc)
 

@@ -121,7 +121,7 @@ find-kept f t (s ∷ ss) key = by (f s) refl (s == t) refl (find-kept f t ss key
       let miss : (k.0 == t) ≡ false = ap (λ n. n == t) at ∙ is in
       ap (λ v. cond v (Some k) (find (λ (kept : ℕ × List ℕ). kept.0 == t) (filter_map f ss))) miss ∙ rest)
 
-pub contains-range : (from n s : ℕ) → from ≤ s → s < from + n → contains (range_with_len from n) s ≡ true
+contains-range : (from n s : ℕ) → from ≤ s → s < from + n → contains (range_with_len from n) s ≡ true
 contains-range from zero s l m = absurd (omega arith)
 contains-range from (suc n) s l m = elim (cases_lt from s) [
   | inl below ↦ later (from == s) (contains-range (from + 1) n s (omega arith) (omega arith))

@@ -16,7 +16,7 @@ use Rattle.sc_sets.proofs.Union.FineTargets.{from-all}
 use Rattle.sc_sets.proofs.Union.Kept.{kept-apart}
 
 -- a member has a place
-pub place-in : (t : ℕ) (ts : List ℕ) → contains ts t ≡ true → (k : ℕ) × ((k < length ts) × (slice_index_or ts k 0 ≡ t))
+place-in : (t : ℕ) (ts : List ℕ) → contains ts t ≡ true → (k : ℕ) × ((k < length ts) × (slice_index_or ts k 0 ≡ t))
 place-in t [] h = absurd (cc)
 place-in t (u ∷ ts) h = by (u == t) refl h (place-in t ts) where
   by : (v : Bool) → (u == t) ≡ v → (v || contains ts t) ≡ true
@@ -25,7 +25,7 @@ place-in t (u ∷ ts) h = by (u == t) refl h (place-in t ts) where
   by true e h so = (0, (omega arith, grind (arith, nat_tests)))
   by false e h so = let r = so h in (suc r.0, (omega (arith, r.1.0), r.1.1))
 
-pub at-place : (ts : List ℕ) (k d : ℕ) → k < length ts → contains ts (slice_index_or ts k d) ≡ true
+at-place : (ts : List ℕ) (k d : ℕ) → k < length ts → contains ts (slice_index_or ts k d) ≡ true
 at-place [] k d l = absurd (omega arith)
 at-place (t ∷ ts) zero d l = let hit : (t == t) ≡ true = grind (arith, nat_tests) in ap (λ v. v || contains ts t) hit
 at-place (t ∷ ts) (suc k) d l = later (t == slice_index_or ts k d) (at-place ts k d (omega arith)) where
