@@ -1,5 +1,5 @@
 -- Entering what was entered before adds nothing.
-use Rattle.std.proofs.Common.{◌≡◌, ◌⊎◌, inl, inr, ℕ, zero, suc, Bool, true, false, cond, Option, Some, None, List, [], ◌∷◌, filter, refl, sym, subst}
+use Rattle.std.proofs.Common.{◌≡◌, inl, inr, ℕ, zero, suc, Bool, true, false, cond, Option, Some, None, List, [], ◌∷◌, filter, refl, sym, subst}
 use Rattle.sc_base.specs.Ascending.{contains, with_number}
 use Rattle.sc_base.specs.Folds.{each}
 use Rattle.sc_types.specs.declared.chart.Chart.{Chart}
@@ -20,7 +20,9 @@ pub record Steady (step : EntryTriple → EntryTriple) : Type 0 where
 steady-then : (f g : EntryTriple → EntryTriple) → Steady f → Steady g → Steady (λ e. g (f e))
 steady-then f g h i = record {
   grows = λ e x t. i.grows (f e) x (h.grows e x t);
-  again = λ e d more x t. h.again e d (λ y u. more y (i.grows (f e) y u)) x (i.again (f e) (f d) (λ y u. h.grows d y (more y u)) x t);
+  again =
+      λ e d more x t. h.again e d (λ y u. more y (i.grows (f e) y u)) x
+      (i.again (f e) (f d) (λ y u. h.grows d y (more y u)) x t);
 }
 
 steady-same : Steady (λ e. e)
@@ -60,7 +62,8 @@ steady-region c enters k is = record {
   grow false e x t = is.grows e x t
 
   by : (v w : Bool) (e d : EntryTriple) → is_begun c e k ≡ v → is_begun c d k ≡ w
-      → HasMore ((cond v (λ (x : EntryTriple). x) (enters k)) e) d → HasMore ((cond w (λ (x : EntryTriple). x) (enters k)) d) d
+      → HasMore ((cond v (λ (x : EntryTriple). x) (enters k)) e) d
+      → HasMore ((cond w (λ (x : EntryTriple). x) (enters k)) d) d
   by v true e d i j more x t = t
   by true false e d i j more x t = absurd (let yes = begun-more c e d k more i in cc)
   by false false e d i j more x t = is.again e d more x t
@@ -68,35 +71,46 @@ steady-region c enters k is = record {
 steady-regions : (c : Chart) (enters : Enters) (a : ℕ) → ((s : ℕ) → Steady (enters s)) → Steady (regions c enters a)
 steady-regions c enters a all = steady-each (region c enters) (children c a) (λ s. steady-region c enters s (all s))
 
+-- entering an ancestor is steady where what it enters is
 pub steady-through : (c : Chart) (enters : Enters) (a : ℕ) → ((s : ℕ) → Steady (enters s)) → Steady (through c enters a)
 steady-through c enters a all =
     steady-then (added a) (cond (is_parallel c a) (regions c enters a) (λ e. e)) (steady-added a)
     (steady-either (is_parallel c a) (regions c enters a) (λ e. e) (steady-regions c enters a all) steady-same)
 
+-- so is the way up
 pub steady-up : (c : Chart) (enters : Enters) (b s : ℕ) → ((s : ℕ) → Steady (enters s)) → Steady (up c enters b s)
-steady-up c enters b s all = steady-each (through c enters) (filter (λ a. is_below c a b) (ancestors c s)) (λ a. steady-through c enters a all)
+steady-up c enters b s all =
+    steady-each (through c enters) (filter (λ a. is_below c a b) (ancestors c s)) (λ a. steady-through c enters a all)
 
-steady-reach : (c : Chart) (enters : Enters) (b : ℕ) (ss : List ℕ) → ((s : ℕ) → Steady (enters s)) → Steady (reach c enters b ss)
+steady-reach : (c : Chart) (enters : Enters) (b : ℕ) (ss : List ℕ) → ((s : ℕ) → Steady (enters s))
+    → Steady (reach c enters b ss)
 steady-reach c enters b ss all =
-    steady-then (each enters ss) (each (up c enters b) ss) (steady-each enters ss all) (steady-each (up c enters b) ss (λ s. steady-up c enters b s all))
+    steady-then (each enters ss) (each (up c enters b) ss) (steady-each enters ss all)
+    (steady-each (up c enters b) ss (λ s. steady-up c enters b s all))
 
 steady-default : (c : Chart) (enters : Enters) (s : ℕ) → ((s : ℕ) → Steady (enters s)) → Steady (by_default c enters s)
 steady-default c enters s all =
     steady-then (λ e. record e { defaults = with_number s e.defaults }) (reach c enters s (defaults c s))
-    (steady-states (λ e. record e { defaults = with_number s e.defaults }) (λ e. refl)) (steady-reach c enters s (defaults c s) all)
+    (steady-states (λ e. record e { defaults = with_number s e.defaults }) (λ e. refl))
+    (steady-reach c enters s (defaults c s) all)
 
 steady-settle : (c : Chart) (enters : Enters) (s : ℕ) → ((s : ℕ) → Steady (enters s)) → Steady (settle_in c enters s)
 steady-settle c enters s all =
-    steady-then (added s) (cond (is_compound c s) (by_default c enters s) (cond (is_parallel c s) (regions c enters s) (λ e. e))) (steady-added s)
-    (steady-either (is_compound c s) (by_default c enters s) (cond (is_parallel c s) (regions c enters s) (λ e. e)) (steady-default c enters s all)
+    steady-then (added s)
+    (cond (is_compound c s) (by_default c enters s) (cond (is_parallel c s) (regions c enters s) (λ e. e)))
+    (steady-added s)
+    (steady-either (is_compound c s) (by_default c enters s) (cond (is_parallel c s) (regions c enters s) (λ e. e))
+    (steady-default c enters s all)
     (steady-either (is_parallel c s) (regions c enters s) (λ e. e) (steady-regions c enters s all) steady-same))
 
-steady-recall : (c : Chart) (d : ℕ) (enters : Enters) (s : ℕ) (o : Option (List ℕ)) → ((s : ℕ) → Steady (enters s)) → Steady (recall c d enters s o)
+steady-recall : (c : Chart) (d : ℕ) (enters : Enters) (s : ℕ) (o : Option (List ℕ)) → ((s : ℕ) → Steady (enters s))
+    → Steady (recall c d enters s o)
 steady-recall c d enters s None all =
     steady-then (noted s) (reach c enters (bound_of c d s) (defaults c s)) (steady-states (noted s) (noted-keeps s))
     (steady-reach c enters (bound_of c d s) (defaults c s) all)
 steady-recall c d enters s (Some ss) all = steady-reach c enters (bound_of c d s) ss all
 
+-- so is the recursion of an entry
 pub steady-down : (c : Chart) (h : Histories) (d n : ℕ) (s : ℕ) → Steady (down c h d n s)
 unfolding down
 steady-down c h d zero s = steady-same

@@ -1,8 +1,8 @@
 -- What a microstep leaves: a legal configuration, records of one, and a table of histories in their order.
-use Rattle.std.proofs.Common.{◌≡◌, ◌⊎◌, inl, inr, ℕ, ◌<◌, ◌≤◌, ◌&&◌, ◌||◌, not, nat_lt, Bool, true, false, cond, Some, None, All, List, [], ◌∷◌, length, refl, arith, ap, sym, subst, ◌∙◌}
+use Rattle.std.proofs.Common.{◌≡◌, inl, inr, ℕ, ◌<◌, ◌&&◌, ◌||◌, not, nat_lt, Bool, true, false, None, All, List, [], refl, arith, ap, sym, subst, ◌∙◌}
 use Rattle.std.proofs.lemmas.Bool.{cases_order}
 use Rattle.std.proofs.lemmas.Bool.Decides.{nat_tests}
-use Rattle.std.specs.List.{AllByRecursion as AllOf, list_all}
+use Rattle.std.specs.List.{list_all}
 use Rattle.sc_base.specs.Ascending.{contains}
 use Rattle.sc_types.specs.declared.chart.Chart.{Chart}
 use Rattle.sc_law.specs.Tree.{is_below, root, state_count}
@@ -10,7 +10,7 @@ use Rattle.sc_law.specs.Kinds.{is_history}
 use Rattle.sc_law.specs.Legality.{legal_fault}
 use Rattle.sc_law.specs.Configurations.{IsConfiguration, defaults}
 use Rattle.sc_law.specs.Sets.{Histories, effective_targets, exit_set, stands_for}
-use Rattle.sc_law.specs.Entry.{EntryTriple, enter_targets, entry, first_entry, no_entry}
+use Rattle.sc_law.specs.Entry.{EntryTriple, entry, first_entry}
 use Rattle.sc_law.specs.Fitting.{IsRecorded, rises}
 use Rattle.sc_tables.proofs.Within.{below_root_is, defaults_within}
 use Rattle.sc_sets.specs.Union.{AreKept, recorded_by}
@@ -33,7 +33,7 @@ use Rattle.sc_fits.proofs.Legal.Tree.{not-own}
 -- the configuration after a microstep, told by its members, is legal
 pub legal-after : (c : Chart) (h : Histories) (configuration ts after : List ℕ) → AreKept c h configuration ts
     → ((s : ℕ) → contains after s ≡ (contains configuration s && not (contains (exit_set c h ts configuration) s)
-        || contains (entry c h (recorded_by c h ts configuration) ts).states s))
+    || contains (entry c h (recorded_by c h ts configuration) ts).states s))
     → IsConfiguration c after
 legal-after c h configuration ts after kept told =
     plan-legal c _ configuration after (microstep-plan c h configuration ts after (record { kept = kept; told = told }))
@@ -44,10 +44,13 @@ legal-after c h configuration ts after kept told =
 FirstDomain : Chart → Domains
 FirstDomain c = λ d f. (d ≡ root c) × (f ≡ first_entry c)
 
-some-stand : (c : Chart) (h : Histories) (t : ℕ) → legal_fault c ≡ None → t < state_count c → (u : ℕ) × (contains (stands_for c h t) u ≡ true)
+some-stand : (c : Chart) (h : Histories) (t : ℕ) → legal_fault c ≡ None → t < state_count c
+    → (u : ℕ) × (contains (stands_for c h t) u ≡ true)
 some-stand c h t legal l = by (is_history c t) refl where
   by : (v : Bool) → is_history c t ≡ v → (u : ℕ) × (contains (stands_for c h t) u ≡ true)
-  by true e = let r = some-stands c h t legal l e in (r.0, subst (λ us. contains us r.0 ≡ true) (sym r.1.1) (has-first r.0 r.1.0))
+  by true e =
+      let r = some-stands c h t legal l e in
+      (r.0, subst (λ us. contains us r.0 ≡ true) (sym r.1.1) (has-first r.0 r.1.0))
   by false e = (t, stands-has c h t e)
 
 first-fills : (c : Chart) → legal_fault c ≡ None → IsFilling c (root c) (first_entry c)
@@ -57,20 +60,27 @@ first-fills c legal = targets-fill c [] (root c) (defaults c (root c)) (record {
   domain = omega arith;
   numbers = number;
   below = λ u i. (let from = flat-from (stands_for c []) (defaults c (root c)) u i in
-      below_root_is c u legal (each-has (λ x. x < state_count c) u (stands_for c [] from.0) (stands-within c [] from.0 legal tt (number from.0 from.1.0)) from.1.1));
+      below_root_is c u legal
+      (each-has (λ x. x < state_count c) u (stands_for c [] from.0)
+      (stands-within c [] from.0 legal tt (number from.0 from.1.0)) from.1.1));
   together = defaults-together c (root c) legal (inr refl);
   some = some;
 }) where
   number : (t : ℕ) → contains (defaults c (root c)) t ≡ true → t < state_count c
-  number t i = each-has (λ x. x < state_count c) t (defaults c (root c)) (from-all (λ x. x < state_count c) (defaults c (root c)) (defaults_within c (root c))) i
+  number t i =
+      each-has (λ x. x < state_count c) t (defaults c (root c))
+      (from-all (λ x. x < state_count c) (defaults c (root c)) (defaults_within c (root c))) i
 
   some : (u : ℕ) × (contains (effective_targets c [] (defaults c (root c))) u ≡ true)
   some =
       let t = root-some c legal in
-      let i : contains (defaults c (root c)) t.0 ≡ true = subst (λ us. contains us t.0 ≡ true) (sym t.1.1) (has-first t.0 t.1.0) in
-      let u = some-stand c [] t.0 legal (number t.0 i) in (u.0, flat-has (stands_for c []) (defaults c (root c)) t.0 u.0 i u.1)
+      let i : contains (defaults c (root c)) t.0 ≡ true = subst (λ us. contains us t.0 ≡ true) (sym t.1.1)
+      (has-first t.0 t.1.0) in
+      let u = some-stand c [] t.0 legal (number t.0 i) in
+      (u.0, flat-has (stands_for c []) (defaults c (root c)) t.0 u.0 i u.1)
 
-first-plan : (c : Chart) (after : List ℕ) → legal_fault c ≡ None → ((s : ℕ) → contains after s ≡ contains (first_entry c).states s)
+first-plan : (c : Chart) (after : List ℕ) → legal_fault c ≡ None
+    → ((s : ℕ) → contains after s ≡ contains (first_entry c).states s)
     → IsPlan c (FirstDomain c) [] after
 unfolding FirstDomain
 first-plan c after legal told = record {
@@ -82,13 +92,18 @@ first-plan c after legal told = record {
   top = λ none. absurd (none (first_entry c) (refl, refl));
   within = λ d f is. (let e = is.0 in omega arith);
   has_one = λ d f is. inr is.0;
-  filling = λ d f is. subst (λ k. IsFilling c k f) (sym is.0) (subst (IsFilling c (root c)) (sym is.1) (first-fills c legal));
+  filling =
+      λ d f is. subst (λ k. IsFilling c k f) (sym is.0) (subst (IsFilling c (root c)) (sym is.1) (first-fills c legal));
   active = λ d f is l. absurd (let e = is.0 in omega arith);
   apart = λ d e f g is also low. not-own c d (subst (λ k. is_below c d k ≡ true) (also.0 ∙ sym is.0) low);
   same = λ d f g is also. is.1 ∙ sym also.1;
   decided = λ s. elim (cases_order s (root c)) [
     | inl e ↦ inl (first_entry c, (e, refl))
-    | inr o ↦ elim o [ inl less ↦ inr (λ f is. (let e = is.0 in omega arith)) | inr more ↦ inr (λ f is. (let e = is.0 in omega arith)) ]
+    | inr o ↦ elim o [
+      | inl less ↦ inr (λ f is. (let e = is.0 in omega arith))
+      | inr more ↦ inr
+          (λ f is. (let e = is.0 in omega arith))
+    ]
   ];
   old = λ s on out. absurd (cc);
   new = λ s d f is i. told s ∙ subst (λ (x : EntryTriple). Has x s) is.1 i;
@@ -114,12 +129,14 @@ entered-new c h configuration ts kept s i =
     let from = entry-from c h configuration ts s kept i in
     let d = from.0 in
     let is = from.1.1.0 in
-    let in-it : Has (own c (recorded_by c h ts configuration) is.0 d) s = subst (λ (x : EntryTriple). Has x s) is.1.1.1 from.1.1.1 in
+    let in-it : Has (own c (recorded_by c h ts configuration) is.0 d) s = subst
+    (λ (x : EntryTriple). Has x s) is.1.1.1 from.1.1.1 in
     let low = ((kept-fills c h configuration ts is.0 d kept is.1.0 is.1.1.0).filled s in-it).inside in
     not-stays (contains configuration s) (contains (exit_set c h ts configuration) s)
     (λ active. exit-has c h configuration ts s is.0 d active is.1.0 is.1.1.0 low)
 
-filled-state : (c : Chart) (d s : ℕ) (f : EntryTriple) → IsFilled c (BelowOf c d) s f → (nat_lt s (state_count c) && not (is_history c s)) ≡ true
+filled-state : (c : Chart) (d s : ℕ) (f : EntryTriple) → IsFilled c (BelowOf c d) s f
+    → (nat_lt s (state_count c) && not (is_history c s)) ≡ true
 filled-state c d s f is =
     let l = below-number c s d is.inside in
     let less : nat_lt s (state_count c) ≡ true = grind (arith, nat_tests) in
@@ -127,12 +144,15 @@ filled-state c d s f is =
 
 -- what is entered are states of the chart, and no histories
 pub entered-states : (c : Chart) (h : Histories) (configuration ts : List ℕ) → AreKept c h configuration ts
-    → list_all (λ s. nat_lt s (state_count c) && not (is_history c s)) (entry c h (recorded_by c h ts configuration) ts).states ≡ true
+    → list_all (λ s. nat_lt s (state_count c) && not (is_history c s))
+    (entry c h (recorded_by c h ts configuration) ts).states ≡ true
 entered-states c h configuration ts kept =
-    list-all-by (λ s. nat_lt s (state_count c) && not (is_history c s)) (entry c h (recorded_by c h ts configuration) ts).states
+    list-all-by (λ s. nat_lt s (state_count c) && not (is_history c s))
+    (entry c h (recorded_by c h ts configuration) ts).states
     (λ s i. (let from = entry-from c h configuration ts s kept i in
     let is = from.1.1.0 in
-    let in-it : Has (own c (recorded_by c h ts configuration) is.0 from.0) s = subst (λ (x : EntryTriple). Has x s) is.1.1.1 from.1.1.1 in
+    let in-it : Has (own c (recorded_by c h ts configuration) is.0 from.0) s = subst
+    (λ (x : EntryTriple). Has x s) is.1.1.1 from.1.1.1 in
     filled-state c from.0 s (own c (recorded_by c h ts configuration) is.0 from.0)
     ((kept-fills c h configuration ts is.0 from.0 kept is.1.0 is.1.1.0).filled s in-it)))
 
@@ -151,6 +171,8 @@ pub recorded-after : (c : Chart) (h : Histories) (configuration ts : List ℕ) �
 recorded-after c h configuration ts kept = (kept-taken c h configuration ts kept).recorded
 
 -- each record after the exit is an ascending list of states, and the table is in the order of the histories
-pub kept-after : (c : Chart) (h : Histories) (configuration ts : List ℕ) → AreKept c h configuration ts → rises configuration ≡ true → IsTable c h
+pub kept-after : (c : Chart) (h : Histories) (configuration ts : List ℕ) → AreKept c h configuration ts
+    → rises configuration ≡ true → IsTable c h
     → IsTable c (recorded_by c h ts configuration)
-kept-after c h configuration ts kept up table = record-table c configuration (exit_set c h ts configuration) h kept.configured up table
+kept-after c h configuration ts kept up table =
+    record-table c configuration (exit_set c h ts configuration) h kept.configured up table

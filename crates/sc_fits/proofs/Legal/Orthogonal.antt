@@ -1,18 +1,17 @@
 -- Orthogonal targets can be entered together.
-use Rattle.std.proofs.Common.{◌≡◌, ◌⊎◌, inl, inr, ℕ, ◌+◌, ◌-◌, ◌<◌, ◌≤◌, ◌==◌, ◌&&◌, not, nat_eq, Bool, true, false, cond, Some, None, List, [], ◌∷◌, length, map, refl, arith, ap, ap₂, sym, subst, ◌∙◌}
-use Rattle.std.proofs.lemmas.Bool.{cases_lt, cases_order}
+use Rattle.std.proofs.Common.{◌≡◌, ◌⊎◌, inl, inr, ℕ, ◌+◌, ◌-◌, ◌<◌, ◌≤◌, ◌==◌, ◌&&◌, nat_eq, Bool, true, false, cond, None, List, [], ◌∷◌, length, map, refl, arith, ap, ap₂, sym, subst, ◌∙◌}
+use Rattle.std.proofs.lemmas.Bool.{cases_order}
 use Rattle.std.proofs.lemmas.Bool.Decides.{nat_tests}
 use Rattle.std.proofs.lemmas.Slice.Eq.{bytes_eq-Decides}
 use Rattle.std.specs.List.{AllByRecursion as AllOf, list_all}
 use Rattle.std.specs.Option.{option_map_or}
 use Rattle.sc_types.specs.Elements.{is_numbered}
 use Rattle.sc_types.specs.declared.chart.Chart.{Chart}
-use Rattle.sc_types.specs.declared.chart.Node.{Node}
 use Rattle.sc_types.specs.declared.chart.Tag.{Tag}
 use Rattle.sc_types.specs.declared.chart.Tag.TheVariants as tag
 use Rattle.sc_types.specs.declared.state_kind.StateKind.TheVariants.{Compound}
 use Rattle.sc_law.specs.Nodes.{Path, element, is_same, is_tag, leads_on, parent, tag_of}
-use Rattle.sc_law.specs.Tree.{is_below, path_of, root, state_count, state_element}
+use Rattle.sc_law.specs.Tree.{path_of, root, state_count, state_element}
 use Rattle.sc_law.specs.Kinds.{is_compound, is_history, is_kind, kind_at}
 use Rattle.sc_law.specs.Legality.{all_orthogonal, are_orthogonal, common, is_history_of, legal_fault}
 use Rattle.sc_law.specs.Configurations.{parent_of}
@@ -24,8 +23,8 @@ use Rattle.sc_sets.proofs.Union.FineTargets.{begins-length}
 use Rattle.sc_sets.proofs.Union.Forks.{begins-equal, both, not-true}
 use Rattle.sc_sets.proofs.Union.LegalDefaults.{history-tag}
 use Rattle.sc_sets.proofs.Union.Parents.{past-root}
-use Rattle.sc_fits.proofs.Legal.Meets.{Agree, HasOne, IsApart, Pairs, SeatBy, Together, seat}
-use Rattle.sc_fits.proofs.Legal.Tree.{HasHolder, IsKid, Under, has-holder}
+use Rattle.sc_fits.proofs.Legal.Meets.{HasOne, Pairs, SeatBy, Together, seat}
+use Rattle.sc_fits.proofs.Legal.Tree.{IsKid, Under, has-holder}
 
 -- ---- paths
 
@@ -56,7 +55,8 @@ common-most (x ∷ s) (y ∷ p) (z ∷ q) h i =
     let e : nat_eq x y ≡ true = a.0 in
     let f : nat_eq x z ≡ true = b.0 in
     let same : (y == z) ≡ true = grind (arith, nat_tests) in
-    subst (λ v. begins (x ∷ s) (cond v (y ∷ common p q) []) ≡ true) (sym same) (ap₂ (λ v w. v && w) e (common-most s p q a.1 b.1))
+    subst (λ v. begins (x ∷ s) (cond v (y ∷ common p q) []) ≡ true) (sym same)
+    (ap₂ (λ v w. v && w) e (common-most s p q a.1 b.1))
 
 -- a path that begins another is that, or is shorter
 begins-short : (m p : Path) → begins m p ≡ true → (m ≡ p) ⊎ (length m < length p)
@@ -105,14 +105,16 @@ parallel-tag : (t : Tag) → is_tag tag.Parallel t ≡ true → t ≡ tag.Parall
 parallel-tag tag.Parallel h = refl
 parallel-tag t h = absurd (cc)
 
-seat-begins : (c : Chart) (u : ℕ) → legal_fault c ≡ None → u < state_count c → begins (path_of c (seat c u)) (path_of c u) ≡ true
+seat-begins : (c : Chart) (u : ℕ) → legal_fault c ≡ None → u < state_count c
+    → begins (path_of c (seat c u)) (path_of c u) ≡ true
 seat-begins c u legal l = by (is_history c u) where
   by : (v : Bool) → begins (path_of c (SeatBy v c u)) (path_of c u) ≡ true
   by true = subst (λ p. begins p (path_of c u) ≡ true) (sym (has-holder c u legal l).path) (parent-begins (path_of c u))
   by false = begins-same (path_of c u)
 
 -- where the paths of two targets meet is above their seats
-meet-short : (c : Chart) (m : Path) (u : ℕ) → legal_fault c ≡ None → u < state_count c → begins m (path_of c u) ≡ true → (m ≡ path_of c u → ⊥)
+meet-short : (c : Chart) (m : Path) (u : ℕ) → legal_fault c ≡ None → u < state_count c → begins m (path_of c u) ≡ true
+    → (m ≡ path_of c u → ⊥)
     → is_history_of c m (path_of c u) ≡ false → length m < length (path_of c (seat c u))
 meet-short c m u legal l begin other none = by (is_history c u) refl where
   less : length m < length (path_of c u)
@@ -128,12 +130,15 @@ meet-short c m u legal l begin other none = by (is_history c u) refl where
   not-own history e =
       let here : is_tag tag.History (tag_of (element c (path_of c u))) ≡ true =
       ap (is_tag tag.History) (history-tag (state_element c u) (tag_of (state_element c u)) history) in
-      let at : is_same (parent (path_of c u)) m ≡ true = subst (λ q. is_same (parent (path_of c u)) q ≡ true) (sym e) (same-path (parent (path_of c u))) in
+      let at : is_same (parent (path_of c u)) m ≡ true = subst (λ q. is_same (parent (path_of c u)) q ≡ true) (sym e)
+      (same-path (parent (path_of c u))) in
       let yes : is_history_of c m (path_of c u) ≡ true = ap₂ (λ v w. v && w) here at in cc
 
   by : (v : Bool) → is_history c u ≡ v → length m < length (path_of c (SeatBy v c u))
   by true history = subst (λ p. length m < length p) (sym own)
-      (elim (begins-short m (parent (path_of c u)) (begins-fork m (parent (path_of c u)) (path_of c u) begin (parent-begins (path_of c u)) (omega (arith, less, long)))) [
+      (elim (begins-short m (parent (path_of c u))
+      (begins-fork m (parent (path_of c u)) (path_of c u) begin (parent-begins (path_of c u))
+      (omega (arith, less, long)))) [
         | inl e ↦ absurd (not-own history e)
         | inr short ↦ short
       ])
@@ -141,25 +146,33 @@ meet-short c m u legal l begin other none = by (is_history c u) refl where
 
 tagged-compound : (c : Chart) (x : ℕ) → tag_of (state_element c x) ≡ tag.Parallel → is_compound c x ≡ true → ⊥
 tagged-compound c x e h =
-    let no : is_compound c x ≡ false = ap (λ (t : Tag). option_map_or (is_kind Compound) (kind_at (state_element c x) t) false) e in cc
+    let no : is_compound c x ≡ false = ap
+    (λ (t : Tag). option_map_or (is_kind Compound) (kind_at (state_element c x) t) false) e in cc
 
 -- no state with one active child is where the targets meet
-not-at : (c : Chart) (x : ℕ) (m : Path) → legal_fault c ≡ None → is_tag tag.Parallel (tag_of (element c m)) ≡ true → HasOne c x → m ≡ path_of c x → ⊥
+not-at : (c : Chart) (x : ℕ) (m : Path) → legal_fault c ≡ None → is_tag tag.Parallel (tag_of (element c m)) ≡ true
+    → HasOne c x → m ≡ path_of c x → ⊥
 not-at c x m legal parallel (inl compound) e =
     tagged-compound c x (sym (ap (λ p. tag_of (element c p)) e) ∙ parallel-tag (tag_of (element c m)) parallel) compound
 not-at c x m legal parallel (inr top) e =
     let here : m ≡ [] = e ∙ ap (path_of c) top ∙ past-root c (root c) (omega arith) in
-    let it : tag_of c.root ≡ tag.Parallel = sym (ap (λ p. tag_of (element c p)) here) ∙ parallel-tag (tag_of (element c m)) parallel in
+    let it : tag_of c.root ≡ tag.Parallel = sym (ap (λ p. tag_of (element c p)) here)
+    ∙ parallel-tag (tag_of (element c m)) parallel in
     let no = root_not_numbered c legal in
     let yes : is_numbered (tag_of c.root) ≡ true = ap is_numbered it in cc
 
+-- orthogonal targets can be entered together
 pub orthogonal-together : (c : Chart) (u v : ℕ) → legal_fault c ≡ None → u < state_count c → v < state_count c
     → are_orthogonal c (path_of c u) (path_of c v) ≡ true → Together c u v
 orthogonal-together c u v legal l m h = inl (record {
   agree = record { same = agree };
-  left = λ low. (let i = begins-trans (path_of c (seat c v)) (path_of c (seat c u)) (path_of c u) (under-begins c (seat c u) (seat c v) low) left in
+  left =
+      λ low. (let i = begins-trans (path_of c (seat c v)) (path_of c (seat c u)) (path_of c u)
+      (under-begins c (seat c u) (seat c v) low) left in
       crossed (seat c v) i right short-right);
-  right = λ low. (let i = begins-trans (path_of c (seat c u)) (path_of c (seat c v)) (path_of c v) (under-begins c (seat c v) (seat c u) low) right in
+  right =
+      λ low. (let i = begins-trans (path_of c (seat c u)) (path_of c (seat c v)) (path_of c v)
+      (under-begins c (seat c v) (seat c u) low) right in
       crossed (seat c u) left i short-left);
   first = within (is_history c u) u l;
   second = within (is_history c v) v m;
@@ -189,11 +202,13 @@ orthogonal-together c u v legal l m h = inl (record {
 
   short-left : length meet < length (path_of c (seat c u))
   short-left = meet-short c meet u legal l (common-left (path_of c u) (path_of c v))
-      (λ e. no-begin (path_of c u) (path_of c v) is.same is.first (subst (λ p. begins p (path_of c v) ≡ true) e (common-right (path_of c u) (path_of c v)))) is.left
+      (λ e. no-begin (path_of c u) (path_of c v) is.same is.first
+      (subst (λ p. begins p (path_of c v) ≡ true) e (common-right (path_of c u) (path_of c v)))) is.left
 
   other-way : is_same (path_of c v) (path_of c u) ≡ true → ⊥
   other-way e =
-      let yes : is_same (path_of c u) (path_of c v) ≡ true = (bytes_eq-Decides (path_of c u) (path_of c v)).1 (sym ((bytes_eq-Decides (path_of c v) (path_of c u)).0 e)) in
+      let yes : is_same (path_of c u) (path_of c v) ≡ true = (bytes_eq-Decides (path_of c u) (path_of c v)).1
+      (sym ((bytes_eq-Decides (path_of c v) (path_of c u)).0 e)) in
       let no = is.same in cc
 
   short-right : length meet < length (path_of c (seat c v))
@@ -201,11 +216,14 @@ orthogonal-together c u v legal l m h = inl (record {
       (λ e. no-begin (path_of c v) (path_of c u) (false-by (is_same (path_of c v) (path_of c u)) other-way) is.second
       (subst (λ p. begins p (path_of c u) ≡ true) e (common-left (path_of c u) (path_of c v)))) is.right
 
-  crossed : (x : ℕ) → begins (path_of c x) (path_of c u) ≡ true → begins (path_of c x) (path_of c v) ≡ true → length meet < length (path_of c x) → ⊥
+  crossed : (x : ℕ) → begins (path_of c x) (path_of c u) ≡ true → begins (path_of c x) (path_of c v) ≡ true
+      → length meet < length (path_of c x) → ⊥
   crossed x i j short =
-      let b = begins-length (path_of c x) meet (common-most (path_of c x) (path_of c u) (path_of c v) i j) in omega (arith, b, short)
+      let b = begins-length (path_of c x) meet (common-most (path_of c x) (path_of c u) (path_of c v) i j) in
+      omega (arith, b, short)
 
-  agree : (x j k : ℕ) → HasOne c x → x ≤ state_count c → IsKid c x j → IsKid c x k → Under c (seat c u) j → Under c (seat c v) k → j ≡ k
+  agree : (x j k : ℕ) → HasOne c x → x ≤ state_count c → IsKid c x j → IsKid c x k → Under c (seat c u) j
+      → Under c (seat c v) k → j ≡ k
   agree x j k one n r s a b = by (begins-short (path_of c x) meet top) where
     on-left : begins (path_of c j) (path_of c u) ≡ true
     on-left = begins-trans (path_of c j) (path_of c (seat c u)) (path_of c u) (under-begins c (seat c u) j a) left
@@ -215,12 +233,15 @@ orthogonal-together c u v legal l m h = inl (record {
 
     top : begins (path_of c x) meet ≡ true
     top = common-most (path_of c x) (path_of c u) (path_of c v)
-        (begins-trans (path_of c x) (path_of c j) (path_of c u) (leads-begin (path_of c x) (path_of c j) r.below) on-left)
-        (begins-trans (path_of c x) (path_of c k) (path_of c v) (leads-begin (path_of c x) (path_of c k) s.below) on-right)
+        (begins-trans (path_of c x) (path_of c j) (path_of c u) (leads-begin (path_of c x) (path_of c j) r.below)
+        on-left)
+        (begins-trans (path_of c x) (path_of c k) (path_of c v) (leads-begin (path_of c x) (path_of c k) s.below)
+        on-right)
 
     kid-long : (y : ℕ) → IsKid c x y → length (path_of c y) ≡ length (path_of c x) + 1
     kid-long y kid =
-        let up : path_of c x ≡ parent (path_of c y) = ap (path_of c) (sym kid.parent) ∙ (has-holder c y legal kid.number).path in
+        let up : path_of c x ≡ parent (path_of c y) = ap (path_of c) (sym kid.parent)
+        ∙ (has-holder c y legal kid.number).path in
         let same : length (path_of c x) ≡ length (parent (path_of c y)) = ap length up in
         let less = parent-length (path_of c y) in
         let deep = leads-shorter (path_of c x) (path_of c y) kid.below in omega (arith, same, less, deep)
@@ -230,21 +251,28 @@ orthogonal-together c u v legal l m h = inl (record {
     by (inr short) =
         let long_j = kid-long j r in
         let long_k = kid-long k s in
-        let in_j = begins-fork (path_of c j) meet (path_of c u) on-left (common-left (path_of c u) (path_of c v)) (omega (arith, long_j, short)) in
-        let in_k = begins-fork (path_of c k) meet (path_of c v) on-right (common-right (path_of c u) (path_of c v)) (omega (arith, long_k, short)) in
+        let in_j = begins-fork (path_of c j) meet (path_of c u) on-left (common-left (path_of c u) (path_of c v))
+        (omega (arith, long_j, short)) in
+        let in_k = begins-fork (path_of c k) meet (path_of c v) on-right (common-right (path_of c u) (path_of c v))
+        (omega (arith, long_k, short)) in
         same-number c j k legal (let o = r.number in omega arith) (let o = s.number in omega arith)
-        (begins-equal (path_of c j) (path_of c k) (begins-fork (path_of c j) (path_of c k) meet in_j in_k (omega (arith, long_j, long_k))) (omega (arith, long_j, long_k)))
+        (begins-equal (path_of c j) (path_of c k)
+        (begins-fork (path_of c j) (path_of c k) meet in_j in_k (omega (arith, long_j, long_k)))
+        (omega (arith, long_j, long_k)))
 
 -- ---- lists of targets
 
-together-each : (c : Chart) (u : ℕ) (us : List ℕ) → legal_fault c ≡ None → u < state_count c → AllOf (λ t. t < state_count c) us
+together-each : (c : Chart) (u : ℕ) (us : List ℕ) → legal_fault c ≡ None → u < state_count c
+    → AllOf (λ t. t < state_count c) us
     → list_all (are_orthogonal c (path_of c u)) (map (path_of c) us) ≡ true → AllOf (Together c u) us
 together-each c u [] legal l all h = tt
 together-each c u (v ∷ us) legal l all h =
     let t = both (are_orthogonal c (path_of c u) (path_of c v)) _ h in
     (orthogonal-together c u v legal l all.0 t.0, together-each c u us legal l all.1 t.1)
 
-pub together-all : (c : Chart) (us : List ℕ) → legal_fault c ≡ None → AllOf (λ t. t < state_count c) us → all_orthogonal c (map (path_of c) us) ≡ true
+-- all of several orthogonal targets can be entered together
+pub together-all : (c : Chart) (us : List ℕ) → legal_fault c ≡ None → AllOf (λ t. t < state_count c) us
+    → all_orthogonal c (map (path_of c) us) ≡ true
     → Pairs (Together c) us
 together-all c [] legal all h = tt
 together-all c (u ∷ us) legal all h =

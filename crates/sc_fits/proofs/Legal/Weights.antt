@@ -1,6 +1,6 @@
 -- How deep one state's entry may lead to another's: fewer and fewer states are below.
-use Rattle.std.proofs.Common.{◌≡◌, ◌⊎◌, inl, inr, ℕ, ◌+◌, ◌<◌, ◌≤◌, ◌==◌, ◌||◌, zero, suc, Bool, true, false, cond, Some, None, refl, arith, ap, sym, subst, ◌∙◌}
-use Rattle.std.proofs.lemmas.Bool.{cases_lt, cases_order}
+use Rattle.std.proofs.Common.{◌≡◌, inl, inr, ℕ, ◌+◌, ◌<◌, ◌≤◌, ◌==◌, ◌||◌, zero, suc, Bool, true, false, None, refl, arith, ap, sym, subst, ◌∙◌}
+use Rattle.std.proofs.lemmas.Bool.{cases_order}
 use Rattle.std.proofs.lemmas.Bool.Decides.{nat_tests}
 use Rattle.sc_types.specs.declared.chart.Chart.{Chart}
 use Rattle.sc_law.specs.Tree.{is_below, state_count}
@@ -10,7 +10,7 @@ use Rattle.sc_law.specs.Configurations.{parent_of}
 use Rattle.sc_sets.proofs.Union.Above.{below-number}
 use Rattle.sc_sets.proofs.Union.Apart.{false-by}
 use Rattle.sc_fits.proofs.Legal.Lists.{or-cases, or-right}
-use Rattle.sc_fits.proofs.Legal.Tree.{Under, above-on, below-under, between, has-holder, not-back, not-own, number-below}
+use Rattle.sc_fits.proofs.Legal.Tree.{Under, above-on, below-under, between, has-holder, not-own, number-below}
 
 abbrev one-if : Bool → ℕ
 one-if true = 1
@@ -31,7 +31,8 @@ count-less p q (suc n) h =
     let l = one-less (p n) (q n) (h n) in
     let m = count-less p q n h in omega arith
 
-count-fewer : (p q : ℕ → Bool) (n k : ℕ) → ((x : ℕ) → p x ≡ true → q x ≡ true) → k < n → p k ≡ false → q k ≡ true → count p n < count q n
+count-fewer : (p q : ℕ → Bool) (n k : ℕ) → ((x : ℕ) → p x ≡ true → q x ≡ true) → k < n → p k ≡ false → q k ≡ true
+    → count p n < count q n
 count-fewer p q zero k h l out in-it = absurd (omega arith)
 count-fewer p q (suc n) k h l out in-it = elim (cases_order k n) [
   | inl e ↦ (let none : one-if (p n) ≡ 0 = zero-if (p n) (sym (ap p e) ∙ out) in
@@ -78,11 +79,13 @@ weight-history c s e = ap (λ v. weight-by v c s) e
 
 fewer-below : (c : Chart) (t s : ℕ) → is_below c t s ≡ true → below-count c t < below-count c s
 fewer-below c t s h =
-    count-fewer (λ x. is_below c x t) (λ x. is_below c x s) (state_count c) t (λ x i. above-on c x t s i h) (below-number c t s h)
+    count-fewer (λ x. is_below c x t) (λ x. is_below c x s) (state_count c) t (λ x i. above-on c x t s i h)
+    (below-number c t s h)
     (false-by (is_below c t t) (not-own c t)) h
 
 -- what is below a state is lighter
-pub lighter-below : (c : Chart) (t s : ℕ) → legal_fault c ≡ None → s ≤ state_count c → is_history c s ≡ false → is_below c t s ≡ true → weight c t < weight c s
+pub lighter-below : (c : Chart) (t s : ℕ) → legal_fault c ≡ None → s ≤ state_count c → is_history c s ≡ false
+    → is_below c t s ≡ true → weight c t < weight c s
 lighter-below c t s legal m state h = by (is_history c t) refl where
   own : weight c s ≡ 1 + below-count c s
   own = weight-state c s state
@@ -100,16 +103,19 @@ lighter-below c t s legal m state h = by (is_history c t) refl where
       let l = fewer-below c t s h in omega (arith, own, it, l)
 
 -- a state is lighter than a history that is recalled by it
-pub lighter-recalled : (c : Chart) (u t : ℕ) → legal_fault c ≡ None → t < state_count c → is_history c t ≡ true → is_history c u ≡ false
+pub lighter-recalled : (c : Chart) (u t : ℕ) → legal_fault c ≡ None → t < state_count c → is_history c t ≡ true
+    → is_history c u ≡ false
     → is_below c u (parent_of c t) ≡ true → weight c u < weight c t
 lighter-recalled c u t legal l history state h =
     let own = weight-history c t history in
     let it = weight-state c u state in
     let one : count (λ x. is_below c x u) (state_count c) < count near (state_count c) =
-    count-fewer (λ x. is_below c x u) near (state_count c) u (λ x i. or-right (x == u) (is_below c x u) i) (below-number c u (parent_of c t) h)
+    count-fewer (λ x. is_below c x u) near (state_count c) u (λ x i. or-right (x == u) (is_below c x u) i)
+    (below-number c u (parent_of c t) h)
     (false-by (is_below c u u) (not-own c u)) self in
     let two : count near (state_count c) < count (λ x. is_below c x (parent_of c t)) (state_count c) =
-    count-fewer near (λ x. is_below c x (parent_of c t)) (state_count c) t all l (false-by (near t) other) (has-holder c t legal l).below in
+    count-fewer near (λ x. is_below c x (parent_of c t)) (state_count c) t all l (false-by (near t) other)
+    (has-holder c t legal l).below in
     omega (arith, own, it, one, two)
   where
     near : ℕ → Bool
@@ -120,33 +126,41 @@ lighter-recalled c u t legal l history state h =
 
     all : (x : ℕ) → near x ≡ true → is_below c x (parent_of c t) ≡ true
     all x i = elim (or-cases (x == u) (is_below c x u) i) [
-      | inl same ↦ (let e : x ≡ u = grind (arith, nat_tests) in subst (λ k. is_below c k (parent_of c t) ≡ true) (sym e) h)
+      | inl same ↦ (let e : x ≡ u = grind (arith, nat_tests) in subst (λ k. is_below c k (parent_of c t) ≡ true)
+          (sym e) h)
       | inr low ↦ above-on c x u (parent_of c t) low h
     ]
 
     other : near t ≡ true → ⊥
     other i = elim (or-cases (t == u) (is_below c t u) i) [
-      | inl same ↦ (let e : t ≡ u = grind (arith, nat_tests) in let yes : is_history c u ≡ true = sym (ap (is_history c) e) ∙ history in cc)
-      | inr low ↦ not-own c u (below-under c u (parent_of c t) u h (between c t u legal l (number-below c u (parent_of c t) h) low))
+      | inl same ↦ (let e : t ≡ u = grind (arith, nat_tests) in let yes : is_history c u ≡ true = sym
+          (ap (is_history c) e) ∙ history in cc)
+      | inr low ↦ not-own c u
+          (below-under c u (parent_of c t) u h (between c t u legal l (number-below c u (parent_of c t) h) low))
     ]
 
 -- nothing is heavier than the chart
 pub weight-most : (c : Chart) (t : ℕ) → t < state_count c → weight c t ≤ state_count c
 weight-most c t l = by (is_history c t) refl where
   by : (v : Bool) → is_history c t ≡ v → weight c t ≤ state_count c
-  by true e = let it = weight-history c t e in let m = count-most (λ x. is_below c x (parent_of c t)) (state_count c) in omega (arith, it, m)
+  by true e =
+      let it = weight-history c t e in let m = count-most (λ x. is_below c x (parent_of c t)) (state_count c) in
+      omega (arith, it, m)
   by false e =
       let it = weight-state c t e in
       let fewer : count (λ x. is_below c x t) (state_count c) < count (λ x. true) (state_count c) =
-      count-fewer (λ x. is_below c x t) (λ x. true) (state_count c) t (λ x i. refl) l (false-by (is_below c t t) (not-own c t)) refl in
+      count-fewer (λ x. is_below c x t) (λ x. true) (state_count c) t (λ x i. refl) l
+      (false-by (is_below c t t) (not-own c t)) refl in
       let m = count-most (λ x. true) (state_count c) in omega (arith, it, fewer, m)
 
+-- each state or history needs some level
 pub some-weight : (c : Chart) (t : ℕ) → legal_fault c ≡ None → t < state_count c → 0 < weight c t
 some-weight c t legal l = by (is_history c t) refl where
   by : (v : Bool) → is_history c t ≡ v → 0 < weight c t
   by true e =
       let it = weight-history c t e in
       let some : count (λ x. false) (state_count c) < count (λ x. is_below c x (parent_of c t)) (state_count c) =
-      count-fewer (λ x. false) (λ x. is_below c x (parent_of c t)) (state_count c) t (λ x i. absurd (cc)) l refl (has-holder c t legal l).below in
+      count-fewer (λ x. false) (λ x. is_below c x (parent_of c t)) (state_count c) t (λ x i. absurd (cc)) l refl
+      (has-holder c t legal l).below in
       omega (arith, it, some)
   by false e = let it = weight-state c t e in omega (arith, it)
