@@ -1,3 +1,3 @@
-//! What a turn leaves of a session that fits its chart: theorems on the definitions of a turn, for the crates that run
-//! one. No code stands here.
+//! Theorems, without a program: a microstep leaves a legal configuration and records of one, and a turn that leaves its
+//! session running leaves a session that fits its chart.
 #![tactic(auto)]
