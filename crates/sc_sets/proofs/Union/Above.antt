@@ -27,7 +27,7 @@ use Rattle.sc_sets.proofs.Union.Recorded.{exited-active, record-recorded, value-
 use Rattle.sc_sets.proofs.Union.SomeDefaults.{some-stands}
 
 -- a number that is below another is that of a state
-below-number : (c : Chart) (u p : ℕ) → is_below c u p ≡ true → u < state_count c
+pub below-number : (c : Chart) (u p : ℕ) → is_below c u p ≡ true → u < state_count c
 below-number c u p h = elim (cases_lt u (state_count c)) [
   | inl l ↦ l
   | inr past ↦
@@ -82,14 +82,14 @@ all-join P f (t ∷ ts) h = front (f t) h.0 (all-join P f ts h.1) where
   front (x ∷ xs) h i = (h.0, front xs h.1 i)
 
 -- what a target stands for are states
-stands-within : (c : Chart) (h : Histories) (t : ℕ) → legal_fault c ≡ None → AllOf (IsRecorded c) h → t < state_count c
+pub stands-within : (c : Chart) (h : Histories) (t : ℕ) → legal_fault c ≡ None → AllOf (IsRecorded c) h → t < state_count c
     → AllOf (λ s. s < state_count c) (stands_for c h t)
 stands-within c h t legal all l = by (is_history c t) refl where
   by : (v : Bool) → is_history c t ≡ v → AllOf (λ s. s < state_count c) (stands_for c h t)
   by true e = all-of-map _ _ (stands_for c h t) (λ u r. below-number c u (parent_of c t) r.1) (history-states c h t legal all l e)
   by false e = (let same : stands_for c h t ≡ t ∷ [] = rw e refl in subst (AllOf (λ s. s < state_count c)) (sym same) (l, tt))
 
-targets-within : (c : Chart) (t : ℕ) → AllOf (λ s. s < state_count c) (targets c t)
+pub targets-within : (c : Chart) (t : ℕ) → AllOf (λ s. s < state_count c) (targets c t)
 targets-within c t = from-all _ (targets c t) (named_within c _)
 
 -- the targets of a transition stand for states below its domain
@@ -114,7 +114,7 @@ apart-parts false true w h = absurd (cc)
 apart-parts true v w h = absurd (cc)
 
 -- no domain is below another, or itself
-never-below : (c : Chart) (h : Histories) (ts : List ℕ) (t u d e : ℕ) → AnyApart c h ts → contains ts t ≡ true → contains ts u ≡ true
+pub never-below : (c : Chart) (h : Histories) (ts : List ℕ) (t u d e : ℕ) → AnyApart c h ts → contains ts t ≡ true → contains ts u ≡ true
     → domain c h t ≡ Some d → domain c h u ≡ Some e → is_below c d e ≡ true → ⊥
 never-below c h ts t u d e apart in_t in_u is also below = by (apart t u in_t in_u) where
   by : (t ≡ u) ⊎ (HaveApart c h t u ⊎ HaveApart c h u t) → ⊥
@@ -127,7 +127,7 @@ never-below c h ts t u d e apart in_t in_u is also below = by (apart t u in_t in
   by (inr (inr have)) = let no = (apart-parts (e == d) (is_below c e d) (is_below c d e) (have e d also is)).1 in cc
 
 -- one of these transitions leaves the state
-leaver : (c : Chart) (h : Histories) (p : ℕ) (ts : List ℕ) → list_any (λ t. leaves c h t p) ts ≡ true
+pub leaver : (c : Chart) (h : Histories) (p : ℕ) (ts : List ℕ) → list_any (λ t. leaves c h t p) ts ≡ true
     → (u : ℕ) × ((contains ts u ≡ true) × ((e : ℕ) × ((domain c h u ≡ Some e) × (is_below c p e ≡ true))))
 leaver c h p [] any = absurd (cc)
 leaver c h p (t ∷ ts) any = by (leaves c h t p) refl any (leaver c h p ts) where

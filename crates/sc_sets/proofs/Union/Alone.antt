@@ -14,7 +14,7 @@ use Rattle.sc_sets.proofs.Union.Numbers.{any-joined, joined-with, with-less, wit
 use Rattle.std.specs.List.{AllByRecursion as AllOf}
 use Rattle.sc_sets.proofs.Union.Below.{Fine, HasDefaults, IsKept, IsTree, Keeps, Relation, all-of-map, keeps-down, keeps-each, keeps-then, keeps-up}
 
-noted-keeps : (s : ℕ) (e : EntryTriple) → (noted s e).states ≡ e.states
+pub noted-keeps : (s : ℕ) (e : EntryTriple) → (noted s e).states ≡ e.states
 noted-keeps s e = by (contains e.noted s) where
   by : (v : Bool) → (cond v e (record e { noted = e.noted ++ s ∷ [] })).states ≡ e.states
   by true = refl
@@ -145,7 +145,7 @@ outside-more c before h tree has t u ss (Some a) is fine apart outside =
     λ d e. all-joined (λ s. is_below c s d ≡ false) ss (alone c before h t) (outside d e)
     (all-of-map _ _ (alone c before h t) (λ s below. apart a d s is e below) (alone-below c before h tree has t a is fine))
 
-all-both : {A : Type 0} (P Q R : A → Type 0) (xs : List A) → ((x : A) → P x → Q x → R x) → AllOf P xs → AllOf Q xs → AllOf R xs
+pub all-both : {A : Type 0} (P Q R : A → Type 0) (xs : List A) → ((x : A) → P x → Q x → R x) → AllOf P xs → AllOf Q xs → AllOf R xs
 all-both P Q R [] f h i = tt
 all-both P Q R (x ∷ xs) f h i = (f x h.0 i.0, all-both P Q R xs f h.1 i.1)
 

@@ -71,7 +71,7 @@ from-below : (n : ℕ) (ms : List ℕ) → AreBelow n ms → AllOf (λ s. s < n)
 from-below n [] h = tt
 from-below n (m ∷ ms) h = (h.0, from-below n ms h.1)
 
-ancestors-within : (c : Chart) (s : ℕ) → AllOf (λ a. a < state_count c) (ancestors c s)
+pub ancestors-within : (c : Chart) (s : ℕ) → AllOf (λ a. a < state_count c) (ancestors c s)
 ancestors-within c s =
     all-reverse _ (numbers_where (λ path. leads_on path (path_of c s)) 0 (state_paths c))
     (from-below (state_count c) _ (numbers-below (λ path. leads_on path (path_of c s)) 0 (state_count c) (state_paths c) (omega arith)))
@@ -108,7 +108,7 @@ both : (v w : Bool) → (v && w) ≡ true → (v ≡ true) × (w ≡ true)
 both true w h = (refl, h)
 both false w h = absurd (cc)
 
-false-by : (v : Bool) → (v ≡ true → ⊥) → v ≡ false
+pub false-by : (v : Bool) → (v ≡ true → ⊥) → v ≡ false
 false-by true h = absurd (h refl)
 false-by false h = refl
 

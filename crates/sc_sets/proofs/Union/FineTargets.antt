@@ -33,7 +33,7 @@ not-true : (v : Bool) → not v ≡ true → v ≡ false
 not-true true h = absurd (cc)
 not-true false h = refl
 
-all-pairs : {A : Type 0} (P Q : A → Type 0) (xs : List A) → AllOf P xs → AllOf Q xs → AllOf (λ x. P x × Q x) xs
+pub all-pairs : {A : Type 0} (P Q : A → Type 0) (xs : List A) → AllOf P xs → AllOf Q xs → AllOf (λ x. P x × Q x) xs
 all-pairs P Q [] h i = tt
 all-pairs P Q (x ∷ xs) h i = ((h.0, i.0), all-pairs P Q xs h.1 i.1)
 
@@ -45,7 +45,7 @@ from-all P (x ∷ xs) h = let r = recursion_from_All P (x ∷ xs) h in (r.0, fro
 -- ---- what histories stand for
 
 -- a state of a legal chart is below its parent
-below-parent : (c : Chart) (s : ℕ) → legal_fault c ≡ None → s < state_count c → is_below c s (parent_of c s) ≡ true
+pub below-parent : (c : Chart) (s : ℕ) → legal_fault c ≡ None → s < state_count c → is_below c s (parent_of c s) ≡ true
 below-parent c s legal l = by has.0 has.1 where
   has : (o : Option ℕ) × HasParent c s o
   has = parent-near c s l
@@ -105,7 +105,7 @@ value-below c s (kept ∷ h) ss legal all is = by (kept.0 == s) refl is (value-b
   by true e at so = on kept.1 refl (grind (arith, nat_tests)) at
   by false e at so = so at
 
-begins-length : (p q : List ℕ) → begins p q ≡ true → length p ≤ length q
+pub begins-length : (p q : List ℕ) → begins p q ≡ true → length p ≤ length q
 begins-length [] q h = omega arith
 begins-length (x ∷ p) [] h = absurd (cc)
 begins-length (x ∷ p) (y ∷ q) h = let l : length p ≤ length q = begins-length p q (both (nat_eq x y) (begins p q) h).1 in omega arith
@@ -179,7 +179,7 @@ fine-history c h d t (u ∷ us) e low recalled =
       by (inr (inl above)) other = inl above
       by (inr (inr same)) other = inr (sym same)
 
-fine-target : (c : Chart) (h : Histories) (d t : ℕ) → legal_fault c ≡ None → AllOf (IsRecorded c) h → t < state_count c
+pub fine-target : (c : Chart) (h : Histories) (d t : ℕ) → legal_fault c ≡ None → AllOf (IsRecorded c) h → t < state_count c
     → AllOf (λ u. is_below c u d ≡ true) (stands_for c h t) → Fine c h d t
 fine-target c h d t legal all l low = by (is_history c t) refl where
   by : (v : Bool) → is_history c t ≡ v → Fine c h d t

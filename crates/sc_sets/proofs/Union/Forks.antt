@@ -14,11 +14,11 @@ use Rattle.sc_tables.proofs.Order.{begins, begins-fork}
 use Rattle.std.specs.List.{AllByRecursion as AllOf}
 use Rattle.sc_sets.proofs.Union.Below.{IsTree, all-of-map}
 
-both : (v w : Bool) → (v && w) ≡ true → (v ≡ true) × (w ≡ true)
+pub both : (v w : Bool) → (v && w) ≡ true → (v ≡ true) × (w ≡ true)
 both true w h = (refl, h)
 both false w h = absurd (cc)
 
-not-true : (v : Bool) → not v ≡ true → v ≡ false
+pub not-true : (v : Bool) → not v ≡ true → v ≡ false
 not-true true h = absurd (cc)
 not-true false h = refl
 
@@ -50,7 +50,7 @@ root-length [] h = absurd (cc)
 root-length (x ∷ p) h = omega arith
 
 -- a child's path leads on from its parent's
-child-leads : (p q : Path) → (not (is_root p) && is_same (parent p) q) ≡ true → leads_on q p ≡ true
+pub child-leads : (p q : Path) → (not (is_root p) && is_same (parent p) q) ≡ true → leads_on q p ≡ true
 child-leads p q h =
     let t = both (not (is_root p)) (is_same (parent p) q) h in
     let e : parent p ≡ q = (bytes_eq-Decides (parent p) q).0 t.1 in
@@ -77,7 +77,7 @@ is-tree c = record {
   kids = children-below c;
 }
 
-begins-equal : (p q : Path) → begins p q ≡ true → length p ≡ length q → p ≡ q
+pub begins-equal : (p q : Path) → begins p q ≡ true → length p ≡ length q → p ≡ q
 begins-equal [] [] h e = refl
 begins-equal [] (y ∷ q) h e = absurd (omega arith)
 begins-equal (x ∷ p) [] h e = absurd (omega arith)

@@ -55,7 +55,7 @@ active-within c configuration s is h =
     (all-of-map _ _ configuration (λ t e. let l = (both (nat_lt t (state_count c)) (not (is_history c t)) e).0 in grind (arith, nat_tests))
     (all-of-true (λ t. nat_lt t (state_count c) && not (is_history c t)) configuration is.states)) h
 
-ancestors-above : (c : Chart) (s : ℕ) → AllOf (λ a. is_below c s a ≡ true) (ancestors c s)
+pub ancestors-above : (c : Chart) (s : ℕ) → AllOf (λ a. is_below c s a ≡ true) (ancestors c s)
 ancestors-above c s =
     all-reverse _ (numbers_where (λ path. leads_on path (path_of c s)) 0 (state_paths c))
     (numbers-hold (λ a. is_below c s a ≡ true) (λ path. leads_on path (path_of c s)) 0 (state_paths c)

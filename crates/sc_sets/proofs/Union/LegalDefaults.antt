@@ -26,11 +26,11 @@ use Rattle.sc_sets.proofs.Union.Forks.{is-tree}
 use Rattle.sc_sets.proofs.Union.LegalElements.{legal-path, legal-state, state-node}
 use Rattle.sc_sets.proofs.Union.NamedStates.{named-targets}
 
-neither : (v w : Bool) → (v || w) ≡ false → (v ≡ false) × (w ≡ false)
+pub neither : (v w : Bool) → (v || w) ≡ false → (v ≡ false) × (w ≡ false)
 neither true w h = absurd (cc)
 neither false w h = (refl, h)
 
-not-false : (v : Bool) → not v ≡ false → v ≡ true
+pub not-false : (v : Bool) → not v ≡ false → v ≡ true
 not-false true h = refl
 not-false false h = absurd (cc)
 
@@ -49,7 +49,7 @@ history-tag n tag.State h = by (has_states n) h where
   by false h = absurd (cc)
 history-tag n t h = absurd (search rules)
 
-no-history : (n : Node) (t : Tag) → is_tag tag.History t ≡ false → option_map_or is_history_kind (kind_at n t) false ≡ false
+pub no-history : (n : Node) (t : Tag) → is_tag tag.History t ≡ false → option_map_or is_history_kind (kind_at n t) false ≡ false
 no-history n tag.History h = absurd (cc)
 no-history n tag.State h = by (has_states n) where
   by : (v : Bool) → is_history_kind (cond v Compound Atomic) ≡ false
@@ -57,7 +57,7 @@ no-history n tag.State h = by (has_states n) where
   by false = refl
 no-history n t h = search rules
 
-compound-tag : (n : Node) (t : Tag) → option_map_or (is_kind Compound) (kind_at n t) false ≡ true → (t ≡ tag.State) × (has_states n ≡ true)
+pub compound-tag : (n : Node) (t : Tag) → option_map_or (is_kind Compound) (kind_at n t) false ≡ true → (t ≡ tag.State) × (has_states n ≡ true)
 compound-tag n tag.State h = by (has_states n) refl h where
   by : (v : Bool) → has_states n ≡ v → is_kind Compound (cond v Compound Atomic) ≡ true → (tag.State ≡ tag.State) × (has_states n ≡ true)
   by true e h = (refl, e)
@@ -106,18 +106,18 @@ history-defaults c t legal l is =
 
 -- ---- defaults of compound states
 
-both-initial : (v w x y : Bool) → (v || (w && x) || y) ≡ false → w ≡ true → x ≡ false
+pub both-initial : (v w x y : Bool) → (v || (w && x) || y) ≡ false → w ≡ true → x ≡ false
 both-initial true w x y h t = absurd (cc)
 both-initial false true true y h t = absurd (cc)
 both-initial false true false y h t = refl
 both-initial false false x y h t = absurd (cc)
 
-last-initial : (v w x : Bool) → (v || w || x) ≡ false → x ≡ false
+pub last-initial : (v w x : Bool) → (v || w || x) ≡ false → x ≡ false
 last-initial true w x h = absurd (cc)
 last-initial false true x h = absurd (cc)
 last-initial false false x h = h
 
-and-true : (v w : Bool) → (v && w) ≡ false → v ≡ true → w ≡ false
+pub and-true : (v w : Bool) → (v && w) ≡ false → v ≡ true → w ≡ false
 and-true true w h t = h
 and-true false w h t = absurd (cc)
 
@@ -159,7 +159,7 @@ abbrev pub HasInitial : List Node → List (List ℕ) → Type 0
 HasInitial ns ids = (k : ℕ) × ((kid : Node) × ((slice_get ns k ≡ Some kid) × ((is_tag tag.Initial (tag_of kid) ≡ true) × (ids ≡ unwrap_or (default_ids kid) []))))
 
 -- the first of them
-initial-kid : (ns : List Node) → list_any (λ kid. is_tag tag.Initial (tag_of kid)) ns ≡ true → HasInitial ns (initial_ids ns)
+pub initial-kid : (ns : List Node) → list_any (λ kid. is_tag tag.Initial (tag_of kid)) ns ≡ true → HasInitial ns (initial_ids ns)
 initial-kid [] h = absurd (cc)
 initial-kid (n ∷ ns) h = by (is_tag tag.Initial (tag_of n)) refl h (initial-kid ns) where
   by : (v : Bool) → is_tag tag.Initial (tag_of n) ≡ v → (v || list_any (λ kid. is_tag tag.Initial (tag_of kid)) ns) ≡ true
@@ -172,13 +172,13 @@ take-front : (p q : Path) → take (length p) (p ++ q) ≡ p
 take-front [] q = refl
 take-front (x ∷ p) q = ap (λ r. x ∷ r) (take-front p q)
 
-parent-of-kid : (p : Path) (k : ℕ) → parent (p ++ k ∷ []) ≡ p
+pub parent-of-kid : (p : Path) (k : ℕ) → parent (p ++ k ∷ []) ≡ p
 parent-of-kid p k =
     let long = length-append p (k ∷ []) in
     let short : length (p ++ k ∷ []) - 1 ≡ length p = omega (arith, long) in
     ap (λ i. take i (p ++ k ∷ [])) short ∙ take-front p (k ∷ [])
 
-kid-no-root : (p : Path) (k : ℕ) → is_root (p ++ k ∷ []) ≡ false
+pub kid-no-root : (p : Path) (k : ℕ) → is_root (p ++ k ∷ []) ≡ false
 kid-no-root [] k = refl
 kid-no-root (x ∷ p) k = let t : (suc (length (p ++ k ∷ [])) == 0) ≡ false = grind (arith, nat_tests) in t
 

@@ -25,7 +25,7 @@ abbrev FailEach : {A : Type 0} → (A → Bool) → List A → Type 0
 FailEach test [] = Unit
 FailEach test (x ∷ xs) = (test x ≡ false) × FailEach test xs
 
-none-found : {A : Type 0} (test : A → Bool) (xs : List A) → find test xs ≡ None → FailEach test xs
+pub none-found : {A : Type 0} (test : A → Bool) (xs : List A) → find test xs ≡ None → FailEach test xs
 none-found test [] h = tt
 none-found test (x ∷ xs) h = by (test x) refl h (none-found test xs) where
   by : (v : Bool) → test x ≡ v → cond v (Some x) (find test xs) ≡ None → (find test xs ≡ None → FailEach test xs)
@@ -33,11 +33,11 @@ none-found test (x ∷ xs) h = by (test x) refl h (none-found test xs) where
   by true e h so = absurd (cc)
   by false e h so = (e, so h)
 
-no-number : (o : Option ℕ) (path : Path) → option_map (λ n. fault n path []) o ≡ None → o ≡ None
+pub no-number : (o : Option ℕ) (path : Path) → option_map (λ n. fault n path []) o ≡ None → o ≡ None
 no-number None path h = refl
 no-number (Some n) path h = absurd (cc)
 
-no-test : (o : Option (ℕ × (Chart → Path → Bool))) → option_map (λ (t : ℕ × (Chart → Path → Bool)). t.0) o ≡ None → o ≡ None
+pub no-test : (o : Option (ℕ × (Chart → Path → Bool))) → option_map (λ (t : ℕ × (Chart → Path → Bool)). t.0) o ≡ None → o ≡ None
 no-test None h = refl
 no-test (Some t) h = absurd (cc)
 
@@ -47,7 +47,7 @@ sound-at c p h =
     let each = none-found (λ (t : ℕ × (Chart → Path → Bool)). t.1 c p) tests (no-test _ number) in
     record { known = each.1.0; initial = each.1.1.0; history = each.1.1.1.0 }
 
-none-first : (o later : Option ChartFault) → option_map_or Some o later ≡ None → (o ≡ None) × (later ≡ None)
+pub none-first : (o later : Option ChartFault) → option_map_or Some o later ≡ None → (o ≡ None) × (later ≡ None)
 none-first None later h = (refl, h)
 none-first (Some f) later h = absurd (cc)
 

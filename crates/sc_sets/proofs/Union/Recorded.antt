@@ -15,7 +15,7 @@ use Rattle.std.specs.List.{AllByRecursion as AllOf}
 
 -- ---- lists
 
-find-has : (P : ℕ × List ℕ → Type 0) (s : ℕ) (h : Histories) (k : ℕ × List ℕ) → AllOf P h
+pub find-has : (P : ℕ × List ℕ → Type 0) (s : ℕ) (h : Histories) (k : ℕ × List ℕ) → AllOf P h
     → find (λ (kept : ℕ × List ℕ). kept.0 == s) h ≡ Some k → P k
 find-has P s [] k all e = absurd (cc)
 find-has P s (kept ∷ h) k all e = by (kept.0 == s) e (find-has P s h k all.1) where
@@ -24,7 +24,7 @@ find-has P s (kept ∷ h) k all e = by (kept.0 == s) e (find-has P s h k all.1) 
   by true e so = (let same : kept ≡ k = cc in subst P same all.0)
   by false e so = so e
 
-contains-filter : (test : ℕ → Bool) (s : ℕ) (ss : List ℕ) → contains (filter test ss) s ≡ true → (contains ss s ≡ true) × (test s ≡ true)
+pub contains-filter : (test : ℕ → Bool) (s : ℕ) (ss : List ℕ) → contains (filter test ss) s ≡ true → (contains ss s ≡ true) × (test s ≡ true)
 contains-filter test s [] h = absurd (cc)
 contains-filter test s (t ∷ ss) h = by (test t) refl h (contains-filter test s ss) where
   on : (v : Bool) → (t == s) ≡ v → test t ≡ true → (v || contains (filter test ss) s) ≡ true
@@ -81,7 +81,7 @@ exited-active c h ts configuration p e = contains-filter (λ s. list_any (λ t. 
 
 -- ---- what a history keeps
 
-key-of : (c : Chart) (configuration gone : List ℕ) (h : Histories) (s : ℕ) (k : ℕ × List ℕ) → kept_by c configuration gone h s ≡ Some k → k.0 ≡ s
+pub key-of : (c : Chart) (configuration gone : List ℕ) (h : Histories) (s : ℕ) (k : ℕ × List ℕ) → kept_by c configuration gone h s ≡ Some k → k.0 ≡ s
 key-of c configuration gone h s k e = by (is_history c s) (contains gone (parent_of c s)) e where
   found : (g : Histories) → find (λ (kept : ℕ × List ℕ). kept.0 == s) g ≡ Some k → k.0 ≡ s
   found [] f = absurd (cc)

@@ -59,7 +59,7 @@ some-path None h = absurd (cc)
 some-path (Some p) h = (p, refl)
 
 -- known ids name some state
-named-some : (c : Chart) (ids : List (List ℕ)) → (length ids == 0) ≡ false → list_any (λ id. is_none (path_named c id)) ids ≡ false → HasSome (named c ids)
+pub named-some : (c : Chart) (ids : List (List ℕ)) → (length ids == 0) ≡ false → list_any (λ id. is_none (path_named c id)) ids ≡ false → HasSome (named c ids)
 named-some c [] some known = absurd (cc)
 named-some c (id ∷ ids) some known =
     let first : is_none (path_named c id) ≡ false = neither (is_none (path_named c id)) _ known in
@@ -76,7 +76,7 @@ tag-is tag.Transition h = refl
 tag-is t h = absurd (cc)
 
 -- the ids of a default are known
-known-ids : (c : Chart) (p : Path) (n : Node) (ids : List (List ℕ)) → legal_fault c ≡ None → node_at c.root p ≡ Some n
+pub known-ids : (c : Chart) (p : Path) (n : Node) (ids : List (List ℕ)) → legal_fault c ≡ None → node_at c.root p ≡ Some n
     → default_ids n ≡ Some ids → HasSome (named c ids)
 known-ids c p n ids legal at is =
     let one = only-one (filter (λ kid. is_tag tag.Transition (tag_of kid)) (kids n)) ids is in
@@ -93,7 +93,7 @@ known-ids c p n ids legal at is =
     ∙ not-true (names_none attribute.Target t) (and-parts (not (has attribute.Event t)) (not (has attribute.Cond t)) _ one.1.1.0) in
     named-some c ids some (sym (ap (λ xs. list_any (λ id. is_none (path_named c id)) xs) ids_are) ∙ known)
 
-given : (o : Option (List (List ℕ))) (f : List (List ℕ) → Bool) → option_map_or f o true ≡ false → (ids : List (List ℕ)) × (o ≡ Some ids)
+pub given : (o : Option (List (List ℕ))) (f : List (List ℕ) → Bool) → option_map_or f o true ≡ false → (ids : List (List ℕ)) × (o ≡ Some ids)
 given None f h = absurd (cc)
 given (Some ids) f h = (ids, refl)
 

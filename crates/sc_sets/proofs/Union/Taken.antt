@@ -33,12 +33,12 @@ at-place (t ∷ ts) (suc k) d l = later (t == slice_index_or ts k d) (at-place t
   later true h = refl
   later false h = h
 
-kept-pairs : (c : Chart) (h : Histories) (configuration ts : List ℕ) → AreKept c h configuration ts → AllPairs (HaveApart c h) ts
+pub kept-pairs : (c : Chart) (h : Histories) (configuration ts : List ℕ) → AreKept c h configuration ts → AllPairs (HaveApart c h) ts
 kept-pairs c h configuration ts is i j d l m =
     kept-apart c h configuration (slice_index_or ts i d) (slice_index_or ts j d) is.legal is.configured (is.active i d (omega arith)) (is.active j d m)
     (is.no_conflict i j d l m)
 
-any-apart : (c : Chart) (h : Histories) (ts : List ℕ) → AllPairs (HaveApart c h) ts → AnyApart c h ts
+pub any-apart : (c : Chart) (h : Histories) (ts : List ℕ) → AllPairs (HaveApart c h) ts → AnyApart c h ts
 any-apart c h ts pairs t u in_t in_u =
     let i = place-in t ts in_t in
     let j = place-in u ts in_u in

@@ -1,0 +1,15 @@
+pub mod Content
+pub mod Data
+pub mod Declared
+pub mod Entering
+pub mod FitsLists
+pub mod Invokes
+pub mod Keeps
+pub mod Law
+pub mod Laws
+pub mod Leaving
+pub mod Lists
+pub mod Micro
+pub mod Selecting
+pub mod Sending
+pub mod Sources
