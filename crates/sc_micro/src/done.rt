@@ -12,6 +12,7 @@ ghost use Rattle.sc_exec.specs.Runs.{running_of, KeepsRows};
 ghost use Rattle.sc_select.specs.Runs.{IsRunOf};
 ghost use Rattle.sc_micro.specs.Blocks.{done_kids};
 
+use crate::blocks::kids_of;
 use crate::finals::{is_final, is_in_final, is_parallel};
 use sc_base::{Name, NoMemory, SmallBytes, TextWriter};
 use sc_exec::{Running, payload};
@@ -20,6 +21,7 @@ use sc_types::{Attribute, Data, Event, Kind, Node, Tag};
 use std::alloc::Global;
 
 /// Tells that a state was entered, where it is final: a final under the root stops the session. SCXML 3.7.
+#[tactic(auto, using(sc_select::proofs::RunLemmas::runs))]
 pub(crate) fn tell(alloc: Global, run: &mut Running, t: &Tables, s: u32) -> Result<(), NoMemory>
     requires run { IsRunOf t.now run.old }
     requires s { s < state_count t.now }
@@ -39,6 +41,7 @@ pub(crate) fn tell(alloc: Global, run: &mut Running, t: &Tables, s: u32) -> Resu
 }
 
 /// Tells that the parent of a final state is done, and then a parallel above it, where this completes it.
+#[tactic(auto, using(sc_select::proofs::RunLemmas::runs))]
 fn tell_parent(
     alloc: Global,
     run: &mut Running,
@@ -60,6 +63,7 @@ fn tell_parent(
 }
 
 /// Tells that the parent of a state that is done is done, where that is a parallel that this completes.
+#[tactic(auto, using(sc_select::proofs::RunLemmas::runs))]
 fn tell_above(alloc: Global, run: &mut Running, t: &Tables, s: u32) -> Result<(), NoMemory>
     requires run { IsRunOf t.now run.old }
     requires s { s < state_count t.now }
@@ -75,6 +79,7 @@ fn tell_above(alloc: Global, run: &mut Running, t: &Tables, s: u32) -> Result<()
     }
 }
 
+#[tactic(auto, using(sc_select::proofs::RunLemmas::runs))]
 fn tell_parallel(alloc: Global, run: &mut Running, t: &Tables, s: u32) -> Result<(), NoMemory>
     requires run { IsRunOf t.now run.old }
     requires s { s < state_count t.now }
@@ -146,6 +151,7 @@ fn put_number(text: &mut TextWriter, s: u32) -> Result<(), NoMemory>
 }
 
 /// The data of a final state. SCXML 5.5.
+#[tactic(auto, using(sc_select::proofs::RunLemmas::runs))]
 pub(crate) fn done_data(
     alloc: Global,
     run: &mut Running,
@@ -160,7 +166,7 @@ pub(crate) fn done_data(
 {
     // A final of a legal chart has one `<donedata>` at most.
     let _chart = t.chart();
-    let kids = done_kids(t.element(s).kids.slice());
+    let kids = done_kids(kids_of(t, s));
     match payload(alloc, run, &[], kids)? {
         Some(data) => Ok(data),
         None => Ok(Data::Absent),

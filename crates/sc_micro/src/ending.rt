@@ -17,6 +17,7 @@ use std::alloc::Global;
 
 /// Exits all active states, from the last, and records no history; gives the data of the first final under the root
 /// that was active. Out of memory, the run stands at some point of that. SCXML Appendix D, exitInterpreter.
+#[tactic(auto, using(sc_select::proofs::RunLemmas::runs))]
 pub fn exit_all(alloc: Global, run: &mut Running, t: &Tables) -> Result<Data, NoMemory>
     requires run { IsRunOf t.now run.old }
     ensures ok { IfOk result (λ data. exit_all t.now (running_of run.old) ≡ (data, running_of run.new)) }

@@ -12,7 +12,7 @@ ghost use Rattle.sc_exec.specs.Runs.{running_of, KeepsRows};
 ghost use Rattle.sc_sets.specs.Triples.{HasWidth, triple_of};
 ghost use Rattle.sc_select.specs.Runs.{IsRunOf};
 
-use crate::blocks::{run_each, run_tagged};
+use crate::blocks::{kids_of, run_each, run_tagged};
 use crate::done::tell;
 use sc_base::NoMemory;
 use sc_exec::{Running, is_late, state_data};
@@ -22,6 +22,7 @@ use sc_types::{Node, Tag};
 use std::alloc::Global;
 
 /// Enters states in document order. SCXML Appendix D, enterStates.
+#[tactic(auto, using(sc_select::proofs::RunLemmas::runs))]
 pub(crate) fn enter(
     alloc: Global,
     run: &mut Running,
@@ -45,7 +46,7 @@ pub(crate) fn enter(
 
 /// Enters one state: it joins the configuration, then come its data, its `<onentry>` blocks, the content of its default
 /// and of its histories' defaults, and what a final state tells. SCXML 3.8.
-#[tactic(auto, unfolding(sc_law::specs::Entering::enter_state))]
+#[tactic(auto, using(sc_select::proofs::RunLemmas::runs))]
 fn enter_state(
     alloc: Global,
     run: &mut Running,
@@ -62,7 +63,7 @@ fn enter_state(
     let was_entered = run.entered.has(s);
     join(run, s);
     late_data(alloc, run, t, s, was_entered)?;
-    run_tagged(alloc, run, Tag::OnEntry, t.element(s).kids.slice())?;
+    run_tagged(alloc, run, Tag::OnEntry, kids_of(t, s))?;
     run_initial(alloc, run, t, e, s)?;
     run_noted(alloc, run, t, e.noted.slice(), s)?;
     tell(alloc, run, t, s)
@@ -119,7 +120,7 @@ fn run_initial(
     ensures kept { KeepsRows run.old run.new }
 {
     if e.defaults.has(s) {
-        return run_defaults(alloc, run, t.element(s).kids.slice());
+        return run_defaults(alloc, run, kids_of(t, s));
     }
     Ok(())
 }
@@ -157,7 +158,7 @@ fn run_noted(
 {
     for history in noted {
         if is_child(t, *history, s) {
-            run_each(alloc, run, t.element(*history).kids.slice())?;
+            run_each(alloc, run, kids_of(t, *history))?;
         }
     }
     Ok(())

@@ -7,7 +7,7 @@ ghost use Rattle.sc_law.specs.Tree.{state_count};
 ghost use Rattle.sc_exec.specs.Runs.{running_of, KeepsRows};
 ghost use Rattle.sc_select.specs.Runs.{IsRunOf};
 
-use crate::blocks::run_tagged;
+use crate::blocks::{kids_of, run_tagged};
 use sc_base::{NoMemory, Plain, Sequence};
 use sc_bits::Row;
 use sc_exec::Running;
@@ -31,6 +31,7 @@ pub(crate) fn members(alloc: Global, row: &Row) -> Result<Sequence<u32>, NoMemor
 }
 
 /// Exits these states, from the last.
+#[tactic(auto, using(sc_select::proofs::RunLemmas::runs))]
 pub(crate) fn leave_all(
     alloc: Global,
     run: &mut Running,
@@ -51,14 +52,14 @@ pub(crate) fn leave_all(
 
 /// Exits one state: its `<onexit>` blocks run while it is still active, its invokes are cancelled, and only then it is
 /// removed. SCXML 3.9 and 6.4.3.
-#[tactic(auto, unfolding(sc_law::specs::Leaving::leave))]
+#[tactic(auto, using(sc_select::proofs::RunLemmas::runs))]
 fn leave(alloc: Global, run: &mut Running, t: &Tables, s: u32) -> Result<(), NoMemory>
     requires run { IsRunOf t.now run.old }
     requires s { s < state_count t.now }
     ensures ok { OnOk result (running_of run.new ≡ leave t.now s (running_of run.old)) }
     ensures run { IsRunOf t.now run.new }
 {
-    run_tagged(alloc, run, Tag::OnExit, t.element(s).kids.slice())?;
+    run_tagged(alloc, run, Tag::OnExit, kids_of(t, s))?;
     cancel_invokes(alloc, run, s)?;
     run.env.configuration.take(s);
     Ok(())

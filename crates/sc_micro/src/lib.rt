@@ -9,6 +9,7 @@ mod entering;
 mod finals;
 mod leaving;
 mod microstep;
+mod staying;
 
 pub use ending::exit_all;
 pub use microstep::{enter_first, microstep};

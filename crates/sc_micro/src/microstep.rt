@@ -14,6 +14,7 @@ ghost use Rattle.sc_select.specs.Runs.{IsRunOf, run_state};
 
 use crate::entering::enter;
 use crate::leaving::{leave_all, members};
+use crate::staying::{are_in_order, are_targetless};
 use sc_base::{NoMemory, Plain};
 use sc_bits::Row;
 use sc_exec::{Running, run_block};
@@ -25,7 +26,7 @@ use std::alloc::Global;
 /// Takes transitions: states are exited, then the content of the transitions runs, then states are entered. Without
 /// transitions nothing changes. Out of memory, the run stands at some point of the microstep. SCXML Appendix D,
 /// microstep.
-#[tactic(auto, unfolding(sc_law::specs::Microstep::microstep))]
+#[tactic(auto, using(sc_select::proofs::RunLemmas::runs), unfolding(sc_law::specs::Microstep::microstep))]
 pub fn microstep(
     alloc: Global,
     run: &mut Running,
@@ -43,6 +44,9 @@ pub fn microstep(
     if trs.is_empty() {
         return Ok(());
     }
+    if are_targetless(t, trs) && are_in_order(t, h) {
+        return run_contents(alloc, run, t, trs);
+    }
     let after = exit_states(alloc, run, t, h, trs)?;
     run_contents(alloc, run, t, trs)?;
     let entry = entry_rows(alloc, t, trs, h, &after)?;
@@ -52,7 +56,7 @@ pub fn microstep(
 }
 
 /// Exits what transitions exit; gives the histories after that. SCXML Appendix D, exitStates.
-#[tactic(auto, unfolding(sc_law::specs::Leaving::exit_states))]
+#[tactic(auto, using(sc_select::proofs::RunLemmas::runs), unfolding(sc_law::specs::Leaving::exit_states))]
 fn exit_states(
     alloc: Global,
     run: &mut Running,

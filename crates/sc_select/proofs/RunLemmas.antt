@@ -10,6 +10,7 @@ use Rattle.sc_law.specs.Tree.{state_count}
 use Rattle.sc_eval.specs.Envs.{AreWithin, HasIds}
 use Rattle.sc_exec.specs.Runs.{KeepsRows}
 use Rattle.sc_exec.specs.declared.running.Running.{Running}
+use Rattle.sc_exec.proofs.Kept.{has_ids, kept_then}
 use Rattle.sc_select.specs.Runs.{IsRunOf}
 
 ids_within : (c : Chart) (n s m : ℕ) → s + m ≤ n → AreWithin n (filter_map (id_row c) (range_with_len s m))
@@ -33,4 +34,4 @@ run_kept c old new h kept = record {
   ids = rw kept.ids h.ids;
 }
 
-pub ruleset runs = (run_has_ids, run_kept)
+pub ruleset runs = (run_has_ids, run_kept, has_ids, kept_then)

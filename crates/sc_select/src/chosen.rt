@@ -67,7 +67,7 @@ fn add_choice(
 
 /// What the active atomic states choose, in document order. The condition of an ancestor's transition is evaluated for
 /// each of them.
-#[tactic(auto, using(sc_exec::proofs::Kept::keeping))]
+#[tactic(auto, using(crate::proofs::RunLemmas::runs))]
 pub(crate) fn chosen(
     alloc: Global,
     run: &mut Running,
@@ -82,7 +82,7 @@ pub(crate) fn chosen(
 {
     let mut chosen = Sequence::new(alloc);
     // The number of the root is past every state's.
-    let root = t.count();
+    let _root = t.count();
     let mut from = 0;
     while let Some(s) = run.env.configuration.next(from) {
         add_choice(alloc, run, t, event, s, &mut chosen)?;

@@ -51,7 +51,7 @@ pub fn for_event(
     select(alloc, run, t, h, Some(name))
 }
 
-#[tactic(auto, unfolding(sc_law::specs::Selection::select))]
+#[tactic(auto, using(crate::proofs::RunLemmas::runs), unfolding(sc_law::specs::Selection::select))]
 fn select(
     alloc: Global,
     run: &mut Running,
