@@ -34,7 +34,7 @@ module _ (c : Chart) (conf : List ℕ) where
   keeps h s = kept_by c conf [] h s
 
   record InOrder (from : ℕ) (kept : Kept) (h : Histories) : Type 0 where
-    from : from ≤ kept.0
+    first : from ≤ kept.0
     within : kept.0 < state_count c
     history : is_history c kept.0 ≡ true
     later : are_in_order c (kept.0 + 1) h ≡ true
@@ -44,15 +44,15 @@ module _ (c : Chart) (conf : List ℕ) where
       let a = both _ _ e in
       let b = both (nat_le from kept.0) (is_history_number c kept.0) a.0 in
       let d = both (nat_lt kept.0 (state_count c)) (is_history c kept.0) b.1 in
-      let first = b.0 in
-      let second = d.0 in
-      record { from = grind (arith, nat_tests); within = grind (arith, nat_tests); history = d.1; later = a.1 }
+      let below = b.0 in
+      let small = d.0 in
+      record { first = grind (arith, nat_tests); within = grind (arith, nat_tests); history = d.1; later = a.1 }
 
   none-below : (from s : ℕ) (h : Histories) → are_in_order c from h ≡ true → s < from → find (λ (kept : Kept). kept.0 == s) h ≡ None
   none-below from s [] e l = refl
   none-below from s (kept ∷ h) e l =
       let is = in-order from kept h e in
-      let more : s < kept.0 = omega (arith, is.from) in
+      let more : s < kept.0 = omega (arith, is.first) in
       let other : (kept.0 == s) ≡ false = grind (arith, nat_tests) in
       ap (λ v. cond v (Some kept) (find (λ (kept : Kept). kept.0 == s) h)) other ∙ none-below (kept.0 + 1) s h is.later (omega arith)
 
@@ -90,7 +90,7 @@ module _ (c : Chart) (conf : List ℕ) where
   all-kept : (a m : ℕ) (h : Histories) → are_in_order c a h ≡ true → state_count c ≡ a + m → filter_map (keeps h) (range_with_len a m) ≡ h
   all-kept a zero [] e n = refl
   all-kept a zero (kept ∷ h) e n =
-      let is = in-order a kept h e in absurd (omega (arith, is.from, is.within))
+      let is = in-order a kept h e in absurd (omega (arith, is.first, is.within))
   all-kept a (suc m) [] e n =
       ap (λ o. cons_option o (filter_map (keeps []) (range_with_len (a + 1) m))) (no-record a None refl)
       ∙ all-kept (a + 1) m [] refl (omega arith)
@@ -102,7 +102,7 @@ module _ (c : Chart) (conf : List ℕ) where
             (same-later (a + 1) m kept h (omega arith)
             ∙ all-kept (a + 1) m h (subst (λ k. are_in_order c (k + 1) h ≡ true) same is.later) (omega arith))
         | inr o ↦ elim o [
-          | inl less ↦ absurd (omega (arith, is.from))
+          | inl less ↦ absurd (omega (arith, is.first))
           | inr more ↦
               ap₂ (λ (o : Option Kept) (hs : Histories). cons_option o hs)
               (no-record a (find (λ (k : Kept). k.0 == a) (kept ∷ h)) (kept-later a kept h more is.later))

@@ -23,11 +23,7 @@ pub(crate) fn kids_of(t: &Tables, s: u32) -> &[Node]
 
 /// Runs each of these elements as a block of its own.
 #[tactic(auto, using(sc_exec::proofs::Kept::keeping))]
-pub(crate) fn run_each(
-    alloc: Global,
-    run: &mut Running,
-    nodes: &[Node],
-) -> Result<(), NoMemory>
+pub(crate) fn run_each(alloc: Global, run: &mut Running, nodes: &[Node]) -> Result<(), NoMemory>
     requires { HasIds run.old.env }
     ensures ok { OnOk result (running_of run.new ≡ run_blocks nodes.now (running_of run.old)) }
     ensures kept { KeepsRows run.old run.new }

@@ -23,9 +23,7 @@ pub fn exit_all(alloc: Global, run: &mut Running, t: &Tables) -> Result<Data, No
     ensures ok { IfOk result (λ data. exit_all t.now (running_of run.old) ≡ (data, running_of run.new)) }
     ensures run { IsRunOf t.now run.new }
 {
-    // The number of the root is past every state's.
-    let _root = t.count();
-    let states = members(alloc, &run.env.configuration)?;
+    let states = members(alloc, t, &run.env.configuration)?;
     let last = top_final(t, states.slice());
     leave_all(alloc, run, t, states)?;
     match last {

@@ -15,12 +15,14 @@ use sc_tables::Tables;
 use sc_types::{Effect, Invoked, Tag};
 use std::alloc::Global;
 
-/// The members of a row.
-pub(crate) fn members(alloc: Global, row: &Row) -> Result<Sequence<u32>, NoMemory>
-    requires small { row.now.width < 4294967296 }
+/// The members of a row of states.
+pub(crate) fn members(alloc: Global, t: &Tables, row: &Row) -> Result<Sequence<u32>, NoMemory>
+    requires { row.now.width ≡ state_count t.now }
     ensures value { IfOk result (λ ms. ms ≡ row.now.members) }
-    ensures within { IfOk result (λ ms. All (λ m. m < row.now.width) ms) }
+    ensures within { IfOk result (λ ms. All (λ m. m < state_count t.now) ms) }
 {
+    // The number of the root is past every state's.
+    let _root = t.count();
     let mut members = Sequence::new(alloc);
     let mut from = 0;
     while let Some(member) = row.next(from) {

@@ -77,7 +77,7 @@ fn exit_states(
     let mut after = h.copy()?;
     record_histories(alloc, t, &run.env.configuration, &gone, &mut after)?;
     run.todo.minus(&gone);
-    leave_all(alloc, run, t, members(alloc, &gone)?)?;
+    leave_all(alloc, run, t, members(alloc, t, &gone)?)?;
     Ok(after)
 }
 
@@ -108,12 +108,7 @@ fn exited(
 
 /// Runs the content of transitions, each as a block of its own. SCXML Appendix D, executeTransitionContent.
 #[tactic(auto, using(sc_exec::proofs::Kept::keeping))]
-fn run_contents(
-    alloc: Global,
-    run: &mut Running,
-    t: &Tables,
-    trs: &[u32],
-) -> Result<(), NoMemory>
+fn run_contents(alloc: Global, run: &mut Running, t: &Tables, trs: &[u32]) -> Result<(), NoMemory>
     requires ids { HasIds run.old.env }
     requires trs { All (λ tr. tr < length (transition_paths t.now)) trs.now }
     ensures ok { OnOk result (running_of run.new ≡ each (run_content t.now) trs.now (running_of run.old)) }

@@ -1,7 +1,7 @@
 //! Charts, one a line of the input, each followed by the names of events; written is what a session of it does.
 #![tactic(auto)]
 
-use sc_base::{NoMemory, Queue, Sequence, TextWriter, Bytes, Word};
+use sc_base::{Bytes, NoMemory, Queue, Sequence, TextWriter, Word};
 use sc_bits::Row;
 use sc_chart_json::read_chart;
 use sc_eval::{DataTable, Env, Ids};
@@ -17,7 +17,11 @@ use std::io::{self, Write};
 use std::sync::Arc;
 
 #[derive(Drop)]
-struct Session { t: Tables, run: Running, h: Histories }
+struct Session {
+    t: Tables,
+    run: Running,
+    h: Histories,
+}
 
 fn chart(alloc: Global, text: &[u8]) -> Option<LegalChart> {
     let chart = read_chart(alloc, text).ok()?;
@@ -69,7 +73,11 @@ fn begin(alloc: Global, chart: LegalChart) -> Result<Session, NoMemory> {
     };
     first_data(alloc, &mut run, &chart, &[])?;
     enter_first(alloc, &mut run, &t)?;
-    Ok(Session { t, run, h: Sequence::new(alloc) })
+    Ok(Session {
+        t,
+        run,
+        h: Sequence::new(alloc),
+    })
 }
 
 fn settle(alloc: Global, s: &mut Session, out: &mut TextWriter) -> Result<(), NoMemory> {
@@ -98,30 +106,53 @@ fn settle(alloc: Global, s: &mut Session, out: &mut TextWriter) -> Result<(), No
 fn put(out: &mut TextWriter, what: &str, ns: &[u32]) -> Result<(), NoMemory> {
     out.text("  ")?;
     out.text(what)?;
-    for n in ns { out.text(" ")?; out.number(*n as u128)?; }
+    for n in ns {
+        out.text(" ")?;
+        out.number(*n as u128)?;
+    }
     out.end_line()
 }
 
 fn show(alloc: Global, s: &mut Session, out: &mut TextWriter) -> Result<(), NoMemory> {
     let mut ns = Sequence::new(alloc);
-    for n in 0..s.t.count() { if s.run.env.configuration.has(n) { ns.push(n)?; } }
+    for n in 0..s.t.count() {
+        if s.run.env.configuration.has(n) {
+            ns.push(n)?;
+        }
+    }
     put(out, "states", ns.slice())?;
     let mut todo = Sequence::new(alloc);
-    for n in 0..s.t.count() { if s.run.todo.has(n) { todo.push(n)?; } }
+    for n in 0..s.t.count() {
+        if s.run.todo.has(n) {
+            todo.push(n)?;
+        }
+    }
     put(out, "todo", todo.slice())?;
-    for kept in s.h.slice() { out.text("  h ")?; out.number(kept.0 as u128)?; put(out, "", kept.1.slice())?; }
+    for kept in s.h.slice() {
+        out.text("  h ")?;
+        out.number(kept.0 as u128)?;
+        put(out, "", kept.1.slice())?;
+    }
     for line in s.run.logs.slice() {
         out.text("  log ")?;
         out.bytes(line.label.slice())?;
         match &line.value {
-            Value::Text(text) => { out.text(" ")?; out.bytes(text.slice())?; }
-            Value::Int(n) => { out.text(" ")?; out.signed(*n)?; }
+            Value::Text(text) => {
+                out.text(" ")?;
+                out.bytes(text.slice())?;
+            }
+            Value::Int(n) => {
+                out.text(" ")?;
+                out.signed(*n)?;
+            }
             _ => {}
         }
         out.end_line()?;
     }
     s.run.logs = Sequence::new(alloc);
-    if s.run.stopped { out.text("  stopped\n")?; }
+    if s.run.stopped {
+        out.text("  stopped\n")?;
+    }
     Ok(())
 }
 
@@ -158,11 +189,15 @@ fn main(rt: HostRuntime) -> io::Result<()> {
         match line.as_str().strip_prefix("chart ") {
             Some(text) => {
                 session = start(rt.alloc(), text, &mut out);
-                if session.is_none() { println!(rt; "none")?; }
+                if session.is_none() {
+                    println!(rt; "none")?;
+                }
             }
             None => {
                 if let Some(s) = &mut session {
-                    if event(rt.alloc(), s, line.as_str(), &mut out).is_err() { println!(rt; "no memory")?; }
+                    if event(rt.alloc(), s, line.as_str(), &mut out).is_err() {
+                        println!(rt; "no memory")?;
+                    }
                 }
             }
         }

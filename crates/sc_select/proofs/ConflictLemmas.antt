@@ -101,7 +101,7 @@ apart-each c h t (u ∷ us) conf none = (
       (λ s. first-of (leaves c h t s) (leaves c h u s) (list_any (λ u. leaves c h u s) us)) none,
   apart-each c h t us conf (any-fewer (λ s. leaves c h t s && list_any (λ u. leaves c h u s) us)
       (λ s. leaves c h t s && (leaves c h u s || list_any (λ u. leaves c h u s) us)) conf
-      (λ s. later-of (leaves c h t s) (leaves c h u s) (list_any (λ u. leaves c h u s) us)) none)
+      (λ s. later-of (leaves c h t s) (leaves c h u s) (list_any (λ u. leaves c h u s) us)) none),
 )
 
 -- a transition whose exits meet none of those of the others conflicts with none of them

@@ -33,6 +33,7 @@ first-append c event (x ∷ xs) ys r = by (is_match c event x) (first-append c e
       → (cond v (found x) (first_enabled c event (xs ++ ys))) q ≡ then_ (first_enabled c event ys) ((cond v (found x) (first_enabled c event xs)) q)
   chosen true q so = refl
   chosen false q so = so
+
   by : (v : Bool) → ((q : Running) → first_enabled c event (xs ++ ys) q ≡ then_ (first_enabled c event ys) (first_enabled c event xs q))
       → (cond v (λ q. (cond (holds (condition c x) q).0 (found x) (first_enabled c event (xs ++ ys))) (holds (condition c x) q).1) (first_enabled c event (xs ++ ys))) r
       ≡ then_ (first_enabled c event ys) ((cond v (λ q. (cond (holds (condition c x) q).0 (found x) (first_enabled c event xs)) (holds (condition c x) q).1) (first_enabled c event xs)) r)

@@ -41,6 +41,7 @@ joined-filters p q lo w [] h = refl
 joined-filters p q lo w (n ∷ ns) h = by (p n) (q n) (joined-filters p q (n + 1) w ns h.2) where
   above : (f : ℕ → Bool) → IsAbove n (filter f ns)
   above f = above-filter f n ns (ascending-above (n + 1) w n ns h.2 (omega arith))
+
   by : (v u : Bool) → joined (filter p ns) (filter q ns) ≡ filter (λ s. p s || q s) ns
       → joined (cond v (n ∷ filter p ns) (filter p ns)) (cond u (n ∷ filter q ns) (filter q ns))
       ≡ cond (v || u) (n ∷ filter (λ s. p s || q s) ns) (filter (λ s. p s || q s) ns)

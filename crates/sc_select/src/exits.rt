@@ -10,14 +10,7 @@ use sc_tables::Tables;
 
 /// Writes into a row which active states some transitions exit. `own` is left with those of one of them. SCXML Appendix
 /// D, computeExitSet.
-pub fn exit_union(
-    t: &Tables,
-    trs: &[u32],
-    h: &Histories,
-    conf: &Row,
-    own: &mut Row,
-    all: &mut Row,
-)
+pub fn exit_union(t: &Tables, trs: &[u32], h: &Histories, conf: &Row, own: &mut Row, all: &mut Row)
     requires trs { All (λ tr. tr < length (transition_paths t.now)) trs.now }
     requires kept { KeepsStates t.now h.now }
     requires width { conf.now.width ≡ state_count t.now }

@@ -131,7 +131,16 @@ fn replace(
     if gives_way_to_one(t, h, conf, tr, kept.slice(), &exits.own, &mut exits.other) {
         return Ok(());
     }
-    let mut rest = without_conflicts(alloc, t, h, conf, tr, kept.slice(), &exits.own, &mut exits.other)?;
+    let mut rest = without_conflicts(
+        alloc,
+        t,
+        h,
+        conf,
+        tr,
+        kept.slice(),
+        &exits.own,
+        &mut exits.other,
+    )?;
     rest.push(tr)?;
     exit_union(t, rest.slice(), h, conf, &mut exits.own, &mut exits.all);
     *kept = rest;

@@ -22,5 +22,7 @@ pub(crate) fn is_match(t: &Tables, event: Option<&[u8]>, tr: u32) -> bool
 fn any_matches(pieces: &[Bytes], name: &[u8]) -> bool
     ensures { result ≡ any_matches pieces.now name.now }
 {
-    pieces.iter().any(|piece| piece_matches(piece.slice(), name))
+    pieces
+        .iter()
+        .any(|piece| piece_matches(piece.slice(), name))
 }
