@@ -24,19 +24,17 @@ pub if_gives : {X E : Type 0} (r : Result X E) (x y : X) → IfOk r (λ v. v ≡
 if_gives (Ok v) x y h e = h ∙ e
 if_gives (Err f) x y h e = tt
 
-range_more : (a n : ℕ) → range_with_len a (n + 1) ≡ range_with_len a n ++ (a + n) ∷ []
-range_more a zero = ap (λ k. k ∷ []) (omega arith)
-range_more a (suc n) =
-    let same : suc n + 1 ≡ suc (n + 1) = omega arith in
-    ap (range_with_len a) same
-    ∙ ap (λ ns. a ∷ ns) (range_more (a + 1) n ∙ ap (λ k. range_with_len (a + 1) n ++ k ∷ []) (omega arith))
-
--- one history more
-pub kept_more : (f : ℕ → Option (ℕ × List ℕ)) (n : ℕ) (old new : Histories) (o : Option (ℕ × List ℕ)) → old ≡ filter_map f (range_with_len 0 n)
-    → o ≡ f n → new ≡ old ++ cons_option o [] → new ≡ filter_map f (range_with_len 0 (n + 1))
-kept_more f n old new o e g h =
-    h ∙ ap (λ xs. xs ++ cons_option o []) e ∙ ap (λ p. filter_map f (range_with_len 0 n) ++ cons_option p []) (g ∙ ap f (omega arith))
-    ∙ sym (filter_map-append f (range_with_len 0 n) ((0 + n) ∷ [])) ∙ ap (filter_map f) (sym (range_more 0 n))
+-- a state that is no history keeps nothing, so that the histories alone are enough
+pub of-histories : (c : Chart) (conf gone : List ℕ) (h : Histories) (ns : List ℕ)
+    → filter_map (kept_by c conf gone h) (filter (is_history c) ns) ≡ filter_map (kept_by c conf gone h) ns
+of-histories c conf gone h [] = refl
+of-histories c conf gone h (n ∷ ns) = by (is_history c n) refl (of-histories c conf gone h ns) where
+  by : (v : Bool) → is_history c n ≡ v
+      → filter_map (kept_by c conf gone h) (filter (is_history c) ns) ≡ filter_map (kept_by c conf gone h) ns
+      → filter_map (kept_by c conf gone h) (cond v (n ∷ filter (is_history c) ns) (filter (is_history c) ns))
+      ≡ cons_option (kept_by c conf gone h n) (filter_map (kept_by c conf gone h) ns)
+  by true e so = ap (cons_option (kept_by c conf gone h n)) so
+  by false e so = rw e so
 
 -- ---- what is kept are states
 

@@ -48,9 +48,11 @@ fn recorded(
     ensures { IfOk result (λ r. r
         ≡ filter_map (kept_by t.now conf.now.members exit.now.members h.now) (range_with_len 0 (state_count t.now))) }
 {
+    // The numbers of states have 32 bits.
+    let _count = t.count();
     let mut kept = Sequence::new(alloc);
-    for s in 0..t.count() {
-        push_some(&mut kept, kept_by(alloc, t, conf, exit, h, s)?)?;
+    for s in t.histories() {
+        push_some(&mut kept, kept_by(alloc, t, conf, exit, h, *s)?)?;
     }
     Ok(kept)
 }

@@ -1,5 +1,8 @@
 -- The kinds of states as a list.
-use Rattle.std.proofs.Common.{◌≡◌, ℕ, ◌+◌, ◌<◌, inl, inr, Bool, false, not, cond, Some, List, [], ◌∷◌, ◌++◌, length, length-append, filter, get_or, refl, arith, ap, ap₂, ◌∙◌}
+use Rattle.std.proofs.Common.{◌≡◌, ℕ, zero, suc, ◌+◌, ◌<◌, ◌≤◌, inl, inr, All, Bool, false, not, cond, Some, List, [], ◌∷◌, ◌++◌, length, length-append, filter, map, get_or, refl, arith, ap, ap₂, sym, ◌∙◌}
+use Rattle.std.proofs.lemmas.List.Elements.{All-cons, All-filter, All-nil}
+use Rattle.std.proofs.lemmas.List.FromFn.{filter_of_map_range_with_len_more}
+use Rattle.std.specs.List.{range_with_len}
 use Rattle.std.proofs.lemmas.Bool.{cases_lt}
 use Rattle.std.proofs.Math.ListN.{get_or-append}
 use Rattle.std.proofs.Math.Seq.{get_or-append_seam}
@@ -42,3 +45,42 @@ pub kept-same : (c : Chart) (kinds : List StateKind) (ns : List ℕ) → HasKind
 kept-same c kinds [] has h = refl
 kept-same c kinds (n ∷ ns) has h =
     ap₂ (λ (v : Bool) (ms : List ℕ). cond v (n ∷ ms) ms) (ap not (history-is c kinds n has h.0)) (kept-same c kinds ns has h.1)
+
+pub histories-same : (c : Chart) (kinds : List StateKind) (ns : List ℕ) → HasKinds c kinds → AreBelow (state_count c) ns
+    → filter (is_history_in kinds) ns ≡ filter (is_history c) ns
+histories-same c kinds [] has h = refl
+histories-same c kinds (n ∷ ns) has h =
+    ap₂ (λ (v : Bool) (ms : List ℕ). cond v (n ∷ ms) ms) (history-is c kinds n has h.0) (histories-same c kinds ns has h.1)
+
+map-own : (ns : List ℕ) → map (λ (m : ℕ). m) ns ≡ ns
+map-own [] = refl
+map-own (n ∷ ns) = ap (λ ms. n ∷ ms) (map-own ns)
+
+-- the numbers up to one more
+pub filtered-more : (p : ℕ → Bool) (n : ℕ)
+    → filter p (range_with_len 0 (n + 1)) ≡ filter p (range_with_len 0 n) ++ cond (p n) (n ∷ []) []
+filtered-more p n =
+    ap (filter p) (sym (map-own (range_with_len 0 (n + 1)))) ∙ filter_of_map_range_with_len_more p (λ k. k) 0 n n (omega arith)
+    ∙ ap (λ ns. filter p ns ++ cond (p n) (n ∷ []) []) (map-own (range_with_len 0 n))
+
+-- the first numbers are below their count
+pub range-below : (count a n : ℕ) → a + n ≤ count → AreBelow count (range_with_len a n)
+range-below count a zero l = tt
+range-below count a (suc n) l = (omega arith, range-below count (a + 1) n (omega arith))
+
+-- the histories by the list of kinds are those of the chart
+pub histories_of : (c : Chart) (kinds : List StateKind) (n : ℕ) (hs : List ℕ) → HasKinds c kinds → n ≡ state_count c
+    → hs ≡ filter (is_history_in kinds) (range_with_len 0 n) → hs ≡ filter (is_history c) (range_with_len 0 (state_count c))
+histories_of c kinds n hs has e h =
+    h ∙ ap (λ m. filter (is_history_in kinds) (range_with_len 0 m)) e
+    ∙ histories-same c kinds (range_with_len 0 (state_count c)) has (range-below (state_count c) 0 (state_count c) (omega arith))
+
+all-below : (n : ℕ) (ms : List ℕ) → AreBelow n ms → All (λ m. m < n) ms
+all-below n [] h = All-nil (λ (m : ℕ). m < n)
+all-below n (m ∷ ms) h = All-cons (λ (k : ℕ). k < n) m ms h.0 (all-below n ms h.1)
+
+-- each history has a number of the chart
+pub histories-within : (c : Chart) → All (λ s. s < state_count c) (filter (is_history c) (range_with_len 0 (state_count c)))
+histories-within c =
+    All-filter (is_history c) (λ (s : ℕ). s < state_count c) (range_with_len 0 (state_count c))
+    (all-below (state_count c) (range_with_len 0 (state_count c)) (range-below (state_count c) 0 (state_count c) (omega arith)))

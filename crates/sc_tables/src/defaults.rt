@@ -2,6 +2,7 @@ ghost use Rattle.std.specs.Prelude.{◌≡◌, ◌+◌, ◌≤◌, ℕ, IfOk, fi
 ghost use Rattle.std.specs.List.{list_any, range_with_len};
 ghost use Rattle.std.specs.Option.{option_copied};
 ghost use Rattle.std.specs.Prelude.{take, unwrap_or};
+ghost use Rattle.sc_types.specs.declared.chart.Tag.TheVariants as tag_name;
 ghost use Rattle.sc_law.specs.Nodes.{tag_of, is_tag, element};
 ghost use Rattle.sc_law.specs.Tree.{state_count};
 ghost use Rattle.sc_law.specs.Legality.{is_default, default_ids};

@@ -1,8 +1,9 @@
-ghost use Rattle.std.specs.Prelude.{◌≡◌, ◌<◌, ◌≤◌, [], ◌∷◌, All, None, Some, IfOk, IfSome, length, unwrap_or};
+ghost use Rattle.std.specs.Prelude.{◌≡◌, ◌<◌, ◌≤◌, [], ◌∷◌, All, None, Some, IfOk, IfSome, filter, length, unwrap_or};
+ghost use Rattle.std.specs.List.{range_with_len};
 ghost use Rattle.std.specs.Arc.{arc_value};
 ghost use Rattle.std.specs.Option.{option_map_or};
 ghost use Rattle.sc_law.specs.Tree.{ancestors, is_below, root, state_count, state_element};
-ghost use Rattle.sc_law.specs.Kinds.{kind_of};
+ghost use Rattle.sc_law.specs.Kinds.{is_history, kind_of};
 ghost use Rattle.sc_law.specs.Configurations.{children, defaults, parent_of};
 ghost use Rattle.sc_law.specs.Legality.{legal_fault};
 ghost use Rattle.sc_law.specs.Transitions.{source, targets, transition, transition_paths, transitions_of};
@@ -11,6 +12,7 @@ ghost use Rattle.sc_tables.specs.Rows.{below, row_of};
 
 use crate::defaults::defaults;
 use crate::ids::{StateIds, state_number};
+use crate::kinds::histories;
 use crate::states::States;
 use crate::transitions::Transitions;
 use sc_bits::Row;
@@ -32,6 +34,7 @@ pub struct Tables {
     transitions: Transitions,
     /// The default targets of the states, and behind them those of the root.
     defaults: Sequence<Sequence<u32>>,
+    histories: Sequence<u32>,
 }
 
 impl Model for Tables {
@@ -47,7 +50,8 @@ impl Model for Tables {
 
     ghost view = { λ t. arc_value t.chart };
 
-    ghost invariant = { λ t. AreTables (arc_value t.chart) t.count t.transition_count t.states t.transitions t.defaults };
+    ghost invariant = { λ t. AreTables (arc_value t.chart) t.count t.transition_count t.states t.transitions t.defaults
+        t.histories };
 }
 
 /// The tables of a legal chart.
@@ -78,6 +82,7 @@ fn joined(
     let count = state_number(states.paths.len())?;
     let transition_count = state_number(transitions.paths.len())?;
     let defaults = defaults(alloc, ids, &states, count)?;
+    let histories = histories(alloc, states.kinds.slice(), count)?;
     Ok(Tables {
         chart: Arc::try_clone(chart)?,
         count,
@@ -85,6 +90,7 @@ fn joined(
         states,
         transitions,
         defaults,
+        histories,
     })
 }
 
@@ -206,5 +212,13 @@ impl Tables {
         ensures within { All (λ s. s < state_count self.now) result.now }
     {
         self.defaults.slice()[s as usize].slice()
+    }
+
+    /// The numbers of the histories, ascending.
+    pub fn histories(&self) -> &[u32]
+        ensures value { result.now ≡ filter (is_history self.now) (range_with_len 0 (state_count self.now)) }
+        ensures within { All (λ s. s < state_count self.now) result.now }
+    {
+        self.histories.slice()
     }
 }
