@@ -1,5 +1,5 @@
 -- What the active atomic states choose, one after another.
-use Rattle.std.proofs.Common.{◌≡◌, ℕ, ◌+◌, ◌<◌, ◌≤◌, ◌++◌, Bool, true, false, cond, nat_le, Option, Some, None, All, IfSome, List, [], ◌∷◌, find, filter, refl, ap, sym, ◌∙◌}
+use Rattle.std.proofs.Common.{◌≡◌, ℕ, ◌+◌, ◌≤◌, ◌++◌, Bool, true, false, cond, nat_le, Option, Some, None, All, IfSome, List, [], ◌∷◌, find, filter, ap, sym, ◌∙◌}
 use Rattle.std.proofs.lemmas.List.Elements.{All-append, All-cons, All-nil}
 use Rattle.sc_base.specs.Ascending.{contains}
 use Rattle.sc_bits.specs.Rows.{IsAscending}
@@ -31,11 +31,3 @@ choice-next c event chosen new ms w from s r q form e l h =
 pub choice-end : (c : Chart) (event : Option (List ℕ)) (chosen ms : List ℕ) (from : ℕ) (r : Running) → None ≡ find (λ m. nat_le from m) ms
     → chosen_from c event chosen (filter (is_atomic c) (from_on from ms)) r ≡ (chosen, r)
 choice-end c event chosen ms from r e = ap (λ xs. chosen_from c event chosen (filter (is_atomic c) xs) r) (next_none from ms e)
-
--- what is chosen keeps a property that the one that is found has
-pub choose-all : (P : ℕ → Type 0) (chosen : List ℕ) (found : Option ℕ) → All P chosen → IfSome found P → All P (choose chosen found)
-choose-all P chosen None all h = all
-choose-all P chosen (Some t) all h = by (contains chosen t) where
-  by : (v : Bool) → All P (cond v chosen (chosen ++ t ∷ []))
-  by true = all
-  by false = All-append P chosen (t ∷ []) all (All-cons P t [] h (All-nil P))

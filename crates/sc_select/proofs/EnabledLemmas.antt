@@ -1,5 +1,5 @@
 -- What a state chooses from its own transitions, and then from those of its ancestors.
-use Rattle.std.proofs.Common.{◌≡◌, ℕ, ◌<◌, Bool, true, false, cond, Option, Some, None, All, List, [], ◌∷◌, ◌++◌, flat_map, length, refl, arith, ap, ap₂, sym, ◌∙◌}
+use Rattle.std.proofs.Common.{◌≡◌, ℕ, ◌<◌, Bool, true, false, cond, Option, Some, None, IfSome, is_some, All, List, [], ◌∷◌, ◌++◌, flat_map, length, refl, arith, ap, sym, ◌∙◌}
 use Rattle.std.specs.Option.{option_map_or}
 use Rattle.sc_types.specs.declared.chart.Chart.{Chart}
 use Rattle.sc_law.specs.Outcomes.{holds}
@@ -41,30 +41,30 @@ first-append c event (x ∷ xs) ys r = by (is_match c event x) (first-append c e
   by false so = so r
 
 -- nothing was found among a state's own transitions: those of its ancestors are looked at
-pub found-later : (c : Chart) (event : Option (List ℕ)) (s : ℕ) (above : Option ℕ) (r new : Running)
-    → first_enabled c event (transitions_of c s) r ≡ (None, new) → ancestors c s ≡ option_map_or (λ p. p ∷ ancestors c p) above []
+pub found-later : (c : Chart) (event : Option (List ℕ)) (s : ℕ) (above o : Option ℕ) (r new : Running) → is_some o ≡ false
+    → first_enabled c event (transitions_of c s) r ≡ (o, new) → ancestors c s ≡ option_map_or (λ p. p ∷ ancestors c p) above []
     → first_enabled c event (flat_map (transitions_of c) (option_map_or (λ p. p ∷ ancestors c p) above [])) new
     ≡ first_enabled c event (flat_map (transitions_of c) (s ∷ ancestors c s)) r
-found-later c event s above r new e a =
+found-later c event s above None r new n e a =
     sym (first-append c event (transitions_of c s) (flat_map (transitions_of c) (ancestors c s)) r
     ∙ ap (then_ (first_enabled c event (flat_map (transitions_of c) (ancestors c s)))) e
     ∙ ap (λ ss. first_enabled c event (flat_map (transitions_of c) ss) new) a)
+found-later c event s above (Some t) r new n e a = absurd (cc)
 
 -- one was found among them
-pub found-own : (c : Chart) (event : Option (List ℕ)) (s t : ℕ) (r new : Running)
-    → first_enabled c event (transitions_of c s) r ≡ (Some t, new)
-    → first_enabled c event (flat_map (transitions_of c) (s ∷ ancestors c s)) r ≡ (Some t, new)
-found-own c event s t r new e =
+pub found-own : (c : Chart) (event : Option (List ℕ)) (s : ℕ) (o : Option ℕ) (r new : Running) → is_some o ≡ true
+    → first_enabled c event (transitions_of c s) r ≡ (o, new)
+    → first_enabled c event (flat_map (transitions_of c) (s ∷ ancestors c s)) r ≡ (o, new)
+found-own c event s None r new n e = absurd (cc)
+found-own c event s (Some t) r new n e =
     first-append c event (transitions_of c s) (flat_map (transitions_of c) (ancestors c s)) r
     ∙ ap (then_ (first_enabled c event (flat_map (transitions_of c) (ancestors c s)))) e
 
--- one transition of several, by whether it is enabled
-pub first-one : (c : Chart) (event : Option (List ℕ)) (t : ℕ) (ts : List ℕ) (r new : Running) (b : Bool)
-    → (cond (is_match c event t) (holds (condition c t) r) (false, r)) ≡ (b, new)
-    → first_enabled c event (t ∷ ts) r ≡ (cond b (found t) (first_enabled c event ts)) new
-first-one c event t ts r new b h = by (is_match c event t) h where
-  by : (v : Bool) → (cond v (holds (condition c t) r) (false, r)) ≡ (b, new)
-      → (cond v (λ q. (cond (holds (condition c t) q).0 (found t) (first_enabled c event ts)) (holds (condition c t) q).1) (first_enabled c event ts)) r
-      ≡ (cond b (found t) (first_enabled c event ts)) new
-  by true e = ap (λ (p : Bool × Running). (cond p.0 (found t) (first_enabled c event ts)) p.1) e
-  by false e = ap (λ (p : Bool × Running). (cond p.0 (found t) (first_enabled c event ts)) p.1) e
+-- a state below another is below a bound of it
+pub below-both : (o : Option ℕ) (s n : ℕ) → IfSome o (λ p. p < s) → s < n → IfSome o (λ p. p < n)
+below-both None s n h l = tt
+below-both (Some p) s n h l = omega arith
+
+pub some-has : (o : Option ℕ) (s n : ℕ) → o ≡ Some s → IfSome o (λ p. p < n) → s < n
+some-has None s n e h = absurd (cc)
+some-has (Some p) s n e h = let same : p ≡ s = cc in omega arith

@@ -1,5 +1,6 @@
 -- Which transitions are kept.
-use Rattle.std.proofs.Common.{◌≡◌, ℕ, ◌<◌, ◌||◌, ◌&&◌, not, Bool, true, false, cond, List, [], ◌∷◌, ◌++◌, length, filter, refl, arith, ap, ap₂, sym, ◌∙◌}
+use Rattle.std.proofs.Common.{◌≡◌, ℕ, ◌<◌, ◌||◌, ◌&&◌, not, Bool, true, false, cond, All, List, [], ◌∷◌, ◌++◌, length, filter, refl, arith, ap, ap₂, sym}
+use Rattle.std.proofs.lemmas.List.Elements.{All-filter, All-push, All-same}
 use Rattle.std.specs.List.{list_any, AllByRecursion as AllOf}
 use Rattle.sc_types.specs.declared.chart.Chart.{Chart}
 use Rattle.sc_law.specs.Selection.{conflicts, gives_way, keep, kept_of}
@@ -24,20 +25,8 @@ pub keep-apart : (c : Chart) (h : Histories) (conf : List ℕ) (t : ℕ) (kept :
 keep-apart c h conf t kept all =
     sym (ap₂ (λ (v : Bool) (ns : List ℕ). cond v kept (ns ++ t ∷ [])) (none-before c h conf t kept all) (all-stay c h conf t kept all))
 
--- one that gives way is not kept
-pub keep-none : (c : Chart) (h : Histories) (conf : List ℕ) (t : ℕ) (kept : List ℕ) → list_any (gives_way c h conf t) kept ≡ true
-    → kept ≡ keep c h conf t kept
-keep-none c h conf t kept e =
-    sym (ap (λ (v : Bool). cond v kept (filter (λ u. not (conflicts c h conf t u)) kept ++ t ∷ [])) e)
-
--- one that does not takes the place of those that it conflicts with
-pub keep-instead : (c : Chart) (h : Histories) (conf : List ℕ) (t : ℕ) (kept : List ℕ) → list_any (gives_way c h conf t) kept ≡ false
-    → filter (λ u. not (conflicts c h conf t u)) kept ++ t ∷ [] ≡ keep c h conf t kept
-keep-instead c h conf t kept e =
-    sym (ap (λ (v : Bool). cond v kept (filter (λ u. not (conflicts c h conf t u)) kept ++ t ∷ [])) e)
-
--- of none or one all are kept
-pub kept-few : (c : Chart) (h : Histories) (conf chosen : List ℕ) → length chosen < 2 → chosen ≡ kept_of c h conf chosen
-kept-few c h conf [] l = refl
-kept-few c h conf (t ∷ []) l = refl
-kept-few c h conf (t ∷ u ∷ us) l = absurd (omega arith)
+-- what all have that are kept, and one more, those have that stay, and the one
+pub kept-within : (P : ℕ → Type 0) (test : ℕ → Bool) (kept rest new : List ℕ) (t : ℕ) → All P kept → P t → rest ≡ filter test kept
+    → new ≡ rest ++ t ∷ [] → All P new
+kept-within P test kept rest new t all p r n =
+    All-same P new (rest ++ t ∷ []) n (All-push P rest t (All-same P rest (filter test kept) r (All-filter test P kept all)) p)

@@ -1,11 +1,10 @@
 -- A run over the tables of a chart stays one, and its ids name states.
-use Rattle.std.proofs.Common.{◌≡◌, ℕ, ◌+◌, ◌≤◌, ◌<◌, zero, suc, Bool, true, false, cond, Option, Some, None, List, filter_map, arith, ap, ◌∙◌}
-use Rattle.std.specs.Arc.{arc_value}
+use Rattle.std.proofs.Common.{ℕ, ◌+◌, ◌≤◌, zero, suc, Bool, true, false, cond, Some, None, filter_map, arith, ap, ◌∙◌}
 use Rattle.std.specs.List.{cons_option, range_with_len}
 use Rattle.sc_bits.specs.Rows.{RowOf}
 use Rattle.sc_types.specs.declared.chart.Chart.{Chart}
 use Rattle.sc_law.specs.Kinds.{is_history}
-use Rattle.sc_law.specs.Runs.{id_row, ids, state_id}
+use Rattle.sc_law.specs.Runs.{id_row, state_id}
 use Rattle.sc_law.specs.Tree.{state_count}
 use Rattle.sc_eval.specs.Envs.{AreWithin, HasIds}
 use Rattle.sc_exec.specs.Runs.{KeepsRows}

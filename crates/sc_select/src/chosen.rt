@@ -1,5 +1,6 @@
-ghost use Rattle.std.specs.Prelude.{◌≡◌, ◌<◌, ◌∷◌, [], All, IfOk, OnOk, Some, filter, if◌then◌else◌, length};
+ghost use Rattle.std.specs.Prelude.{◌≡◌, ◌<◌, ◌≤◌, ◌∷◌, [], All, IfOk, IfSome, OnOk, Some, filter, find, if◌then◌else◌, length, nat_le};
 ghost use Rattle.std.specs.Option.{option_copied};
+ghost use Rattle.sc_bits.specs.Rows.{IsAscending};
 ghost use Rattle.sc_law.specs.Kinds.{is_atomic};
 ghost use Rattle.sc_law.specs.Selection.{choose, chosen_from};
 ghost use Rattle.sc_law.specs.Transitions.{transition_paths};
@@ -65,6 +66,15 @@ fn add_choice(
     choose(chosen, found)
 }
 
+/// The first active state from a number on.
+fn next_active(run: &Running, from: u32) -> Option<u32>
+    ensures value { result ≡ find (λ m. nat_le from m) run.now.env.configuration.members }
+    ensures within { IfSome result (λ n. (from ≤ n) × (n < run.now.env.configuration.width)) }
+    ensures form { IsAscending 0 run.now.env.configuration.width run.now.env.configuration.members }
+{
+    run.env.configuration.next(from)
+}
+
 /// What the active atomic states choose, in document order. The condition of an ancestor's transition is evaluated for
 /// each of them.
 #[tactic(auto, using(crate::proofs::RunLemmas::runs))]
@@ -84,7 +94,7 @@ pub(crate) fn chosen(
     // The number of the root is past every state's.
     let _root = t.count();
     let mut from = 0;
-    while let Some(s) = run.env.configuration.next(from) {
+    while let Some(s) = next_active(run, from) {
         add_choice(alloc, run, t, event, s, &mut chosen)?;
         from = s + 1;
     }
