@@ -30,17 +30,17 @@ none-passes (n ∷ ns) h = by (is_done n) refl (none-passes ns (λ k kid e d. h 
   by false e so = so
 
 later : (n : Node) (ns : List Node) → IsOnly (n ∷ ns) → is_done n ≡ false → IsOnly ns
-later n ns only no k kid e d = ap (λ v. v || list_any is_done (take k ns)) (sym no) ∙ only (suc k) kid e d
+later n ns only other k kid e d = ap (λ v. v || list_any is_done (take k ns)) (sym other) ∙ only (suc k) kid e d
 
 none-later : (n : Node) (ns : List Node) → IsOnly (n ∷ ns) → is_done n ≡ true → (k : ℕ) (kid : Node) → slice_get ns k ≡ Some kid → is_done kid ≡ true → ⊥
-none-later n ns only yes k kid e d =
-    let no : (true || list_any is_done (take k ns)) ≡ false = ap (λ v. v || list_any is_done (take k ns)) (sym yes) ∙ only (suc k) kid e d in
+none-later n ns only first k kid e d =
+    let false_is : (true || list_any is_done (take k ns)) ≡ false = ap (λ v. v || list_any is_done (take k ns)) (sym first) ∙ only (suc k) kid e d in
     absurd (cc)
 
 -- what stands in the only donedata
 only-kids : (ns : List Node) → IsOnly ns → flat_map children_of (filter is_done ns) ≡ map child_of (done_kids ns)
 only-kids [] only = refl
-only-kids (n ∷ ns) only = by (is_done n) refl (λ no. only-kids ns (later n ns only no)) where
+only-kids (n ∷ ns) only = by (is_done n) refl (λ other. only-kids ns (later n ns only other)) where
   by : (v : Bool) → is_done n ≡ v → (is_done n ≡ false → flat_map children_of (filter is_done ns) ≡ map child_of (done_kids ns))
       → flat_map children_of (cond v (n ∷ filter is_done ns) (filter is_done ns))
       ≡ map child_of (option_map_or kids (cond v (Some n) (find is_done ns)) [])

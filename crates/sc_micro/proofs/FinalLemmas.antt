@@ -1,5 +1,5 @@
 -- Which states are done, one child state after another.
-use Rattle.std.proofs.Common.{◌≡◌, ℕ, ◌+◌, ◌-◌, ◌<◌, ◌≤◌, ◌&&◌, ◌||◌, nat_le, zero, suc, Bool, true, false, cond, Option, Some, None, List, [], ◌∷◌, find, refl, ap, sym, ◌∙◌}
+use Rattle.std.proofs.Common.{◌≡◌, ◌≢◌, ℕ, ◌+◌, ◌-◌, ◌<◌, ◌≤◌, ◌&&◌, ◌||◌, nat_le, zero, suc, Bool, true, false, cond, Option, Some, None, List, [], ◌∷◌, find, refl, ap, sym, ◌∙◌}
 use Rattle.std.specs.List.{list_all, list_any}
 use Rattle.std.specs.Option.{option_map_or}
 use Rattle.sc_base.specs.Ascending.{contains}
@@ -41,6 +41,14 @@ pub all-end : (test : ℕ → Bool) (ms : List ℕ) (from : ℕ) → None ≡ fi
 all-end test ms from e = sym (ap (list_all test) (next_none from ms e))
 
 -- ---- by the kind of a state
+
+pub no-compound : (k : StateKind) → k ≢ kind.Compound → is_kind kind.Compound k ≡ false
+no-compound kind.Compound h = absurd (h refl)
+no-compound k h = refl
+
+pub no-parallel : (k : StateKind) → k ≢ kind.Parallel → is_kind kind.Parallel k ≡ false
+no-parallel kind.Parallel h = absurd (h refl)
+no-parallel k h = refl
 
 module _ (c : Chart) (conf : List ℕ) where
   pub done-none : (m s : ℕ) → m ≡ 0 → false ≡ is_in_final c conf m s

@@ -14,7 +14,7 @@ use Rattle.sc_types.specs.declared.chart.Tag.TheVariants as tag
 use Rattle.sc_types.specs.declared.state_kind.StateKind.TheVariants as kind
 use Rattle.sc_types.specs.Attributes.{is_text_at}
 use Rattle.sc_law.specs.Kinds.{is_final, is_kind, kind_at}
-use Rattle.sc_law.specs.Legality.{fault_at, first_fault, has_earlier, is_bad_child, is_bad_kid, legal_fault, number_at, own_place, tests}
+use Rattle.sc_law.specs.Legality.{fault_at, first_fault, has_earlier, has_kid, is_among, is_in_finalize, may_hold, is_bad_child, is_bad_kid, legal_fault, number_at, own_place, tests}
 use Rattle.sc_law.specs.Nodes.{Path, element, elements, is_root, is_tag, kids, node_at, parent, tag_of}
 use Rattle.sc_law.specs.Tree.{has_states, path_of, state_count, state_element}
 use Rattle.sc_sets.proofs.Union.LegalDefaults.{kid-at}
@@ -109,7 +109,11 @@ IsOnly ns = (k : ℕ) (kid : Node) → slice_get ns k ≡ Some kid → is_tag ta
     → list_any (λ n. is_tag tag.DoneData (tag_of n)) (take k ns) ≡ false
 
 no-earlier : (c : Chart) (q : Path) → is_bad_kid c q tag.Final tag.DoneData ≡ false → has_earlier tag.DoneData c q ≡ false
-no-earlier c q h = second _ (has_earlier tag.DoneData c q) _ _ _ h
+no-earlier c q h =
+    second (not (may_hold tag.Final tag.DoneData)) (has_earlier tag.DoneData c q)
+    (is_tag tag.DoneData tag.Final && is_tag tag.Param tag.DoneData && has_kid tag.Content (element c (parent q)))
+    (is_among (tag.Raise ∷ tag.Send ∷ []) tag.DoneData && is_in_finalize c (length q) q)
+    (is_tag tag.If tag.Final && is_among (tag.ElseIf ∷ tag.Else ∷ []) tag.DoneData && has_earlier tag.Else c q) h
 
 only-of : (c : Chart) (p : Path) (n : Node) → legal_fault c ≡ None → node_at c.root p ≡ Some n → element c p ≡ n → tag_of n ≡ tag.Final
     → IsOnly (kids n)

@@ -1,5 +1,5 @@
 -- The root and numbers past it are of no kind; the child elements of a state.
-use Rattle.std.proofs.Common.{◌≡◌, ℕ, ◌≤◌, ◌<◌, false, Option, Some, None, List, [], refl, ap, sym, ◌∙◌}
+use Rattle.std.proofs.Common.{◌≡◌, ℕ, ◌≤◌, ◌<◌, ◌&&◌, cond, false, Option, Some, None, List, [], refl, ap, sym, ◌∙◌}
 use Rattle.std.specs.Option.{option_map_or}
 use Rattle.sc_types.specs.Elements.{is_numbered}
 use Rattle.sc_types.specs.declared.chart.Chart.{Chart}
@@ -8,9 +8,12 @@ use Rattle.sc_types.specs.declared.chart.Tag.{Tag}
 use Rattle.sc_types.specs.declared.chart.Tag.TheVariants as tag
 use Rattle.sc_types.specs.declared.state_kind.StateKind.{StateKind}
 use Rattle.sc_types.specs.declared.state_kind.StateKind.TheVariants as kind
+use Rattle.sc_types.specs.declared.event.Data.TheVariants.{Absent}
+use Rattle.sc_law.specs.Entering.{done_event, is_in_final, tell_parallel}
 use Rattle.sc_law.specs.Kinds.{is_kind, is_parallel, kind_at, kind_of}
 use Rattle.sc_law.specs.Legality.{legal_fault}
 use Rattle.sc_law.specs.Nodes.{element, kids, tag_of}
+use Rattle.sc_law.specs.Runs.{Running, enqueue}
 use Rattle.sc_law.specs.Tree.{kids_of, state_count, state_element}
 use Rattle.sc_tables.proofs.LegalRoots.{root_not_numbered}
 use Rattle.sc_sets.proofs.Union.LegalElements.{state-node}
@@ -30,6 +33,11 @@ past_kind c s legal l =
 -- a number past the states is that of no parallel
 pub past_parallel : (c : Chart) (s : ℕ) → legal_fault c ≡ None → state_count c ≤ s → is_parallel c s ≡ false
 past_parallel c s legal l = ap (λ (o : Option StateKind). option_map_or (is_kind kind.Parallel) o false) (past_kind c s legal l)
+
+-- a number that is no parallel's is told of nothing
+pub untold : (c : Chart) (s : ℕ) (r : Running) → is_parallel c s ≡ false → r ≡ tell_parallel c s r
+untold c s r e =
+    sym (ap (λ v. (cond (v && is_in_final c r.env.configuration (state_count c) s) (enqueue (done_event c s Absent)) (λ same. same)) r) e)
 
 -- the child elements of a state are those of its element
 pub kids_are : (c : Chart) (s : ℕ) → legal_fault c ≡ None → s < state_count c → kids_of c s ≡ kids (state_element c s)

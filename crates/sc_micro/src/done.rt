@@ -161,7 +161,7 @@ pub(crate) fn done_data(
     requires run { IsRunOf t.now run.old }
     requires s { s < state_count t.now }
     requires done { is_final t.now s ≡ true }
-    ensures ok { IfOk result (λ data. done_data t.now s (running_of run.old) ≡ (data, running_of run.new)) }
+    ensures ok { IfOk result (λ payload. done_data t.now s (running_of run.old) ≡ (payload, running_of run.new)) }
     ensures kept { KeepsRows run.old run.new }
 {
     // A final of a legal chart has one `<donedata>` at most.

@@ -20,7 +20,7 @@ use std::alloc::Global;
 #[tactic(auto, using(sc_select::proofs::RunLemmas::runs))]
 pub fn exit_all(alloc: Global, run: &mut Running, t: &Tables) -> Result<Data, NoMemory>
     requires run { IsRunOf t.now run.old }
-    ensures ok { IfOk result (λ data. exit_all t.now (running_of run.old) ≡ (data, running_of run.new)) }
+    ensures ok { IfOk result (λ payload. exit_all t.now (running_of run.old) ≡ (payload, running_of run.new)) }
     ensures run { IsRunOf t.now run.new }
 {
     let states = members(alloc, t, &run.env.configuration)?;

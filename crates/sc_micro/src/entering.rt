@@ -1,11 +1,12 @@
-ghost use Rattle.std.specs.Prelude.{◌≡◌, ◌<◌, ◌==◌, OnOk, filter, flat_map, true};
+ghost use Rattle.std.specs.Prelude.{◌≡◌, ◌<◌, ◌==◌, [], OnOk, filter, flat_map, if◌then◌else◌, true};
 ghost use Rattle.sc_base.specs.Ascending.{contains};
+ghost use Rattle.sc_types.specs.declared.chart.Chart.{Chart};
 ghost use Rattle.sc_types.specs.declared.chart.Tag.TheVariants as tag_name;
 ghost use Rattle.sc_law.specs.Configurations.{parent_of};
 ghost use Rattle.sc_law.specs.Content.{run_blocks};
 ghost use Rattle.sc_law.specs.Data.{with_tag};
 ghost use Rattle.sc_law.specs.Entering.{enter, enter_state, initial_of, join, late_data, noted_of};
-ghost use Rattle.sc_law.specs.Nodes.{kids};
+ghost use Rattle.sc_law.specs.Nodes.{is_tag, kids, tag_of};
 ghost use Rattle.sc_law.specs.Tree.{kids_of, state_count};
 ghost use Rattle.sc_eval.specs.Envs.{HasIds};
 ghost use Rattle.sc_exec.specs.Runs.{running_of, KeepsRows};
@@ -75,10 +76,7 @@ fn join(run: &mut Running, s: u32)
     requires entered { s < run.old.entered.width }
     requires todo { s < run.old.todo.width }
     ensures value { running_of run.new ≡ join s (running_of run.old) }
-    ensures configuration { run.new.env.configuration.width ≡ run.old.env.configuration.width }
-    ensures entered { run.new.entered.width ≡ run.old.entered.width }
-    ensures todo { run.new.todo.width ≡ run.old.todo.width }
-    ensures ids { run.new.env.ids ≡ run.old.env.ids }
+    ensures run { (c : Chart) → IsRunOf c run.old → IsRunOf c run.new }
 {
     run.env.configuration.add(s);
     run.entered.add(s);
@@ -134,11 +132,28 @@ fn run_defaults(alloc: Global, run: &mut Running, nodes: &[Node]) -> Result<(), 
     ensures kept { KeepsRows run.old run.new }
 {
     for node in nodes {
-        if node.tag == Tag::Initial {
-            run_each(alloc, run, node.kids.slice())?;
-        }
+        run_default(alloc, run, node)?;
     }
     Ok(())
+}
+
+/// Runs the transitions of an element that is `<initial>`.
+fn run_default(alloc: Global, run: &mut Running, node: &Node) -> Result<(), NoMemory>
+    requires { HasIds run.old.env }
+    ensures ok { OnOk result (running_of run.new
+        ≡ run_blocks (if is_tag tag_name.Initial (tag_of node.now) then kids node.now else []) (running_of run.old)) }
+    ensures kept { KeepsRows run.old run.new }
+{
+    if is_initial(node.tag) {
+        return run_each(alloc, run, node.kids.slice());
+    }
+    Ok(())
+}
+
+fn is_initial(tag: Tag) -> bool
+    ensures { result ≡ is_tag tag_name.Initial tag }
+{
+    matches!(tag, Tag::Initial)
 }
 
 /// The default content of those of the noted histories that stand in a state. SCXML 3.10.
@@ -157,9 +172,27 @@ fn run_noted(
     ensures kept { KeepsRows run.old run.new }
 {
     for history in noted {
-        if is_child(t, *history, s) {
-            run_each(alloc, run, kids_of(t, *history))?;
-        }
+        run_default_of(alloc, run, t, *history, s)?;
+    }
+    Ok(())
+}
+
+/// The default content of a history, where it stands in a state.
+fn run_default_of(
+    alloc: Global,
+    run: &mut Running,
+    t: &Tables,
+    history: u32,
+    s: u32,
+) -> Result<(), NoMemory>
+    requires ids { HasIds run.old.env }
+    requires s { s < state_count t.now }
+    ensures ok { OnOk result (running_of run.new
+        ≡ run_blocks (if parent_of t.now history == s then kids_of t.now history else []) (running_of run.old)) }
+    ensures kept { KeepsRows run.old run.new }
+{
+    if is_child(t, history, s) {
+        return run_each(alloc, run, kids_of(t, history));
     }
     Ok(())
 }

@@ -62,6 +62,14 @@ fn are_in_final(t: &Tables, conf: &Row, levels: u32, s: u32) -> bool
     true
 }
 
+fn is_active_final(t: &Tables, conf: &Row, s: u32) -> bool
+    requires width { conf.now.width ≡ state_count t.now }
+    requires s { s < state_count t.now }
+    ensures { result ≡ (contains conf.now.members s && is_final t.now s) }
+{
+    conf.has(s) && is_final(t, s)
+}
+
 /// Whether a child state is an active final.
 fn has_final(t: &Tables, conf: &Row, s: u32) -> bool
     requires width { conf.now.width ≡ state_count t.now }
@@ -72,7 +80,7 @@ fn has_final(t: &Tables, conf: &Row, s: u32) -> bool
     let children = t.children(s);
     let mut from = 0;
     while let Some(child) = children.next(from) {
-        if conf.has(child) && is_final(t, child) {
+        if is_active_final(t, conf, child) {
             return true;
         }
         from = child + 1;

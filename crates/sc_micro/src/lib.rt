@@ -8,8 +8,8 @@ mod ending;
 mod entering;
 mod finals;
 mod leaving;
-mod microstep;
 mod staying;
+mod step;
 
 pub use ending::exit_all;
-pub use microstep::{enter_first, microstep};
+pub use step::{enter_first, microstep};

@@ -7,7 +7,7 @@ use Rattle.sc_micro.proofs.leaving.leave_all.Given as goal
 
 abbrev pub invariant-loop-s : goal.invariant-loop-s
 invariant-loop-s l = record {
-  steps : leave_all l.t l.left (running_of l.run) ≡ leave_all l.t l.states (running_of l.fn.run);
+  steps : leave_all l.t l.left (running_of l.run) ≡ leave_all l.t l.fn.states (running_of l.fn.run);
   within : All (λ s. s < state_count l.t) l.left;
   run : IsRunOf l.t l.run;
 }

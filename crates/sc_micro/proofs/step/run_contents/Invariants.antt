@@ -3,7 +3,7 @@ use Rattle.sc_base.specs.Folds.{each}
 use Rattle.sc_law.specs.Microstep.{run_content}
 use Rattle.sc_eval.specs.Envs.{HasIds}
 use Rattle.sc_exec.specs.Runs.{running_of, KeepsRows}
-use Rattle.sc_micro.proofs.microstep.run_contents.Given as goal
+use Rattle.sc_micro.proofs.step.run_contents.Given as goal
 
 abbrev pub invariant-loop-tr : goal.invariant-loop-tr
 invariant-loop-tr l = record {

@@ -1,0 +1,33 @@
+use Rattle.sc_exec.specs.Runs.{running_of}
+use Rattle.sc_sets.specs.Triples.{triple_of}
+use Rattle.sc_tables.proofs.TransitionLists.{if_ok}
+use Rattle.sc_select.proofs.RunLemmas.{run_has_ids, run_kept}
+use Rattle.sc_micro.proofs.EnterLemmas.{entered-is}
+use Rattle.sc_micro.proofs.entering.enter_state.Goals as goal
+
+pub late_data-requires-clause-ids : goal.late_data-requires-clause-ids
+late_data-requires-clause-ids c = run_has_ids c.args.t.now c.join.new.run (c.join.ensures.run c.args.t.now c.requires.run)
+
+pub run_tagged-requires : goal.run_tagged-requires
+run_tagged-requires c =
+    let k = c.args.t.now in
+    let joined = c.join.ensures.run k c.requires.run in
+    run_has_ids k c.late_data.new.run (run_kept k c.join.new.run c.late_data.new.run joined c.in_ok-late_data.ensures.kept)
+
+pub run_initial-requires-clause-ids : goal.run_initial-requires-clause-ids
+run_initial-requires-clause-ids c =
+    let k = c.args.t.now in
+    let joined = c.join.ensures.run k c.requires.run in
+    let late = run_kept k c.join.new.run c.late_data.new.run joined c.in_ok-late_data.ensures.kept in
+    run_has_ids k c.run_tagged.new.run (run_kept k c.late_data.new.run c.run_tagged.new.run late c.in_ok-run_tagged.ensures.kept)
+
+pub run_noted-requires-clause-ids : goal.run_noted-requires-clause-ids
+run_noted-requires-clause-ids c =
+    let k = c.args.t.now in
+    let joined = c.join.ensures.run k c.requires.run in
+    let late = run_kept k c.join.new.run c.late_data.new.run joined c.in_ok-late_data.ensures.kept in
+    let begun = run_kept k c.late_data.new.run c.run_tagged.new.run late c.in_ok-run_tagged.ensures.kept in
+    run_has_ids k c.run_initial.new.run (run_kept k c.run_tagged.new.run c.run_initial.new.run begun c.in_ok-run_initial.ensures.kept)
+
+pub returns-clause-ok : goal.returns-clause-ok
+returns-clause-ok c = ?
