@@ -7,12 +7,13 @@ use Rattle.sc_types.specs.declared.chart.Node.{Node}
 use Rattle.sc_types.specs.declared.chart.Tag.TheVariants as tag
 use Rattle.sc_types.specs.declared.event.Data.{Data}
 use Rattle.sc_types.specs.declared.event.Data.TheVariants.{Absent}
+use Rattle.sc_law.specs.Configurations.{parent_of}
 use Rattle.sc_law.specs.Data.{with_tag}
-use Rattle.sc_law.specs.Entering.{done_data}
+use Rattle.sc_law.specs.Entering.{done_data, done_event, tell_parallel, tell_parent, told_parent}
 use Rattle.sc_law.specs.Kinds.{is_final}
 use Rattle.sc_law.specs.Legality.{legal_fault}
 use Rattle.sc_law.specs.Nodes.{is_tag, kids, tag_of}
-use Rattle.sc_law.specs.Runs.{Running}
+use Rattle.sc_law.specs.Runs.{Running, enqueue}
 use Rattle.sc_law.specs.Sending.{Child, child_of, children_of, payload_from}
 use Rattle.sc_law.specs.Tree.{kids_of, state_count}
 use Rattle.sc_micro.specs.Blocks.{done_kids}
@@ -57,3 +58,11 @@ done-data-is c s r new ks found legal l final k e =
     let only : IsOnly (kids_of c s) = subst IsOnly (sym (kids_are c s legal l)) (final-only c s legal l final) in
     ap (λ (cs : List Child). unwrap_or (payload_from [] cs r) (Absent, r)) (only-kids (kids_of c s) only ∙ ap (map child_of) (sym k))
     ∙ ap (λ (o : Option (Data × Running)). unwrap_or o (Absent, r)) e
+
+-- what a final state tells, step by step
+pub told-is : (c : Chart) (s parent : ℕ) (r got queued new : Running) (payload : Data) → parent ≡ parent_of c s
+    → done_data c s r ≡ (payload, got) → queued ≡ enqueue (done_event c parent payload) got
+    → new ≡ tell_parallel c (parent_of c parent) queued → new ≡ tell_parent c s r
+told-is c s parent r got queued new payload p d q n =
+    n ∙ ap (tell_parallel c (parent_of c parent)) q ∙ ap (told_parent c parent) (sym d)
+    ∙ ap (λ m. told_parent c m (done_data c s r)) p

@@ -1,5 +1,6 @@
 pub mod BlockLemmas
 pub mod DoneLemmas
+pub mod EndLemmas
 pub mod EnterLemmas
 pub mod FinalLemmas
 pub mod InvokeLemmas

@@ -1,3 +1,9 @@
+use Rattle.std.proofs.Common.{◌==◌, filter, flat_map, ap, ◌∙◌}
+use Rattle.sc_types.specs.declared.chart.Tag.TheVariants as tag
+use Rattle.sc_law.specs.Configurations.{parent_of}
+use Rattle.sc_law.specs.Content.{run_blocks}
+use Rattle.sc_law.specs.Data.{with_tag}
+use Rattle.sc_law.specs.Tree.{kids_of}
 use Rattle.sc_exec.specs.Runs.{running_of}
 use Rattle.sc_sets.specs.Triples.{triple_of}
 use Rattle.sc_tables.proofs.TransitionLists.{if_ok}
@@ -30,4 +36,15 @@ run_noted-requires-clause-ids c =
     run_has_ids k c.run_initial.new.run (run_kept k c.run_tagged.new.run c.run_initial.new.run begun c.in_ok-run_initial.ensures.kept)
 
 pub returns-clause-ok : goal.returns-clause-ok
-returns-clause-ok c = ?
+returns-clause-ok c =
+    let k = c.args.t.now in
+    if_ok c.tell.result _ _ c.tell.ensures.ok (λ e.
+    entered-is k (triple_of c.args.e.now) c.args.s (running_of c.args.run.now) (running_of c.join.new.run) (running_of c.late_data.new.run)
+    (running_of c.run_tagged.new.run) (running_of c.run_initial.new.run) (running_of c.run_noted.new.run) (running_of c.tell.new.run)
+    c.has-was_entered.result c.has-was_entered.ensures c.join.ensures.value c.in_ok-late_data.ensures.ok
+    (c.in_ok-run_tagged.ensures.ok
+    ∙ ap (λ ns. run_blocks (with_tag tag.OnEntry ns) (running_of c.late_data.new.run)) c.kids_of.ensures)
+    c.in_ok-run_initial.ensures.ok
+    (c.in_ok-run_noted.ensures.ok
+    ∙ ap (λ ns. run_blocks (flat_map (kids_of k) (filter (λ h. parent_of k h == c.args.s) ns)) (running_of c.run_initial.new.run))
+    c.slice.ensures) e)
