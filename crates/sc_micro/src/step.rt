@@ -9,7 +9,9 @@ ghost use Rattle.sc_law.specs.Transitions.{transition_paths};
 ghost use Rattle.sc_law.specs.Tree.{state_count};
 ghost use Rattle.sc_eval.specs.Envs.{HasIds};
 ghost use Rattle.sc_exec.specs.Runs.{running_of, KeepsRows};
+ghost use Rattle.sc_law.specs.Fitting.{FitsRun};
 ghost use Rattle.sc_sets.specs.Conditions.{KeepsStates};
+ghost use Rattle.sc_sets.specs.Union.{AreKept};
 ghost use Rattle.sc_select.specs.Runs.{IsRunOf, run_state};
 
 use crate::entering::enter;
@@ -24,10 +26,31 @@ use sc_tables::Tables;
 use std::alloc::Global;
 
 /// Takes transitions: states are exited, then the content of the transitions runs, then states are entered. Without
-/// transitions nothing changes. Out of memory, the run stands at some point of the microstep. SCXML Appendix D,
-/// microstep.
-#[tactic(auto, using(sc_select::proofs::RunLemmas::runs), unfolding(sc_law::specs::Microstep::microstep))]
+/// transitions nothing changes. Transitions that selection keeps leave a run that fits its chart as one that fits, so
+/// that its configuration is a legal one. Out of memory, the run stands at some point of the microstep. SCXML Appendix
+/// D, microstep.
 pub fn microstep(
+    alloc: Global,
+    run: &mut Running,
+    t: &Tables,
+    h: &mut Histories,
+    trs: &[u32],
+) -> Result<(), NoMemory>
+    requires run { IsRunOf t.now run.old }
+    requires kept { KeepsStates t.now h.old }
+    requires trs { All (λ tr. tr < length (transition_paths t.now)) trs.now }
+    ensures ok { OnOk result (microstep t.now trs.now (run_state run.old h.old) ≡ run_state run.new h.new) }
+    ensures run { IsRunOf t.now run.new }
+    ensures kept { OnOk result (KeepsStates t.now h.new) }
+    ensures fits { AreKept t.now h.old run.old.env.configuration.members trs.now
+        → FitsRun t.now (run_state run.old h.old) → OnOk result (FitsRun t.now (run_state run.new h.new)) }
+{
+    take(alloc, run, t, h, trs)?;
+    Ok(())
+}
+
+#[tactic(auto, using(sc_select::proofs::RunLemmas::runs), unfolding(sc_law::specs::Microstep::microstep))]
+fn take(
     alloc: Global,
     run: &mut Running,
     t: &Tables,
