@@ -1,0 +1,10 @@
+pub mod BlockLemmas
+pub mod DoneLemmas
+pub mod EndLemmas
+pub mod EnterLemmas
+pub mod FinalLemmas
+pub mod InvokeLemmas
+pub mod LeaveLemmas
+pub mod LegalFinals
+pub mod RootLemmas
+pub mod StayLemmas
