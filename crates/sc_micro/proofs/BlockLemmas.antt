@@ -39,6 +39,7 @@ pub noted-step : (c : Chart) (noted : List ℕ) (i s : ℕ) (r : Running) → i 
 noted-step c noted i s r within =
     let h = get_or noted i 0 in
     let rest = filter (λ h. parent_of c h == s) (drop (i + 1) noted) in
-    sym (ap (λ ns. run_blocks (flat_map (kids_of c) (filter (λ h. parent_of c h == s) ns)) r) (drop_more noted i 0 within)
+    sym (ap (λ ns. run_blocks (flat_map (kids_of c) (filter (λ h. parent_of c h == s) ns)) r)
+    (drop_more noted i 0 within)
     ∙ ap (λ (ms : List Node). run_blocks ms r) (parts-of (kids_of c) h rest (parent_of c h == s))
     ∙ blocks-append (cond (parent_of c h == s) (kids_of c h) []) (flat_map (kids_of c) rest) r)

@@ -46,7 +46,8 @@ left-all c r left ss e l =
     ∙ ap (final_data c (filter (is_top_final c) ss)) (sym l)
 
 -- the first final under the root gives its data
-pub ended-some : (c : Chart) (r left : Running) (ss : List ℕ) (s : ℕ) → ss ≡ r.env.configuration → left ≡ leave_all c ss r
+pub ended-some : (c : Chart) (r left : Running) (ss : List ℕ) (s : ℕ) → ss ≡ r.env.configuration
+    → left ≡ leave_all c ss r
     → Some s ≡ find (is_top_final c) ss → exit_all c r ≡ done_data c s left
 ended-some c r left ss s e l f = left-all c r left ss e l ∙ final-some c (is_top_final c) ss s left f
 
