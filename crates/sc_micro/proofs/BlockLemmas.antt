@@ -1,7 +1,6 @@
 -- Blocks, one element after another.
 use Rattle.std.proofs.Common.{◌≡◌, ℕ, ◌+◌, ◌<◌, ◌==◌, Bool, true, false, cond, List, ◌∷◌, [], ◌++◌, drop, filter, flat_map, length, get_or, refl, ap, ap₂, sym, ◌∙◌, add-one, drop-cons}
 use Rattle.std.proofs.lemmas.List.{drop_more}
-use Rattle.sc_base.specs.Folds.{each}
 use Rattle.sc_types.specs.declared.chart.Chart.{Chart}
 use Rattle.sc_types.specs.declared.chart.Node.{Node}
 use Rattle.sc_types.specs.declared.chart.Tag.{Tag}

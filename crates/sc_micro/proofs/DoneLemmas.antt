@@ -1,5 +1,5 @@
 -- The data of a final state.
-use Rattle.std.proofs.Common.{◌≡◌, ℕ, ◌<◌, ◌||◌, zero, suc, Bool, true, false, cond, Option, Some, None, unwrap_or, option_map, List, [], ◌∷◌, ◌++◌, flat_map, filter, find, map, take, slice_get, append-nil, refl, ap, subst, sym, ◌∙◌}
+use Rattle.std.proofs.Common.{◌≡◌, ℕ, ◌<◌, ◌||◌, suc, Bool, true, false, cond, Option, Some, None, unwrap_or, option_map, List, [], ◌∷◌, ◌++◌, flat_map, filter, find, map, take, slice_get, append-nil, refl, ap, subst, sym, ◌∙◌}
 use Rattle.std.specs.List.{list_any}
 use Rattle.std.specs.Option.{option_map_or}
 use Rattle.sc_types.specs.declared.chart.Chart.{Chart}
@@ -8,7 +8,6 @@ use Rattle.sc_types.specs.declared.chart.Tag.TheVariants as tag
 use Rattle.sc_types.specs.declared.event.Data.{Data}
 use Rattle.sc_types.specs.declared.event.Data.TheVariants.{Absent}
 use Rattle.sc_law.specs.Configurations.{parent_of}
-use Rattle.sc_law.specs.Data.{with_tag}
 use Rattle.sc_law.specs.Entering.{done_data, done_event, tell_parallel, tell_parent, told_parent}
 use Rattle.sc_law.specs.Kinds.{is_final}
 use Rattle.sc_law.specs.Legality.{legal_fault}

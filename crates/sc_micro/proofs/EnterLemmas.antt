@@ -1,5 +1,5 @@
 -- States are entered one after another.
-use Rattle.std.proofs.Common.{◌≡◌, ℕ, ◌+◌, ◌<◌, ◌≤◌, nat_le, Bool, true, false, cond, not, Option, Some, None, List, [], ◌∷◌, find, refl, ap, sym, ◌∙◌}
+use Rattle.std.proofs.Common.{◌≡◌, ℕ, ◌+◌, ◌≤◌, nat_le, Bool, Some, None, List, find, ap, sym, ◌∙◌}
 use Rattle.sc_base.specs.Ascending.{contains}
 use Rattle.sc_base.specs.Folds.{each}
 use Rattle.sc_bits.specs.Rows.{IsAscending}

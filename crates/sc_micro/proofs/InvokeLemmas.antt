@@ -1,5 +1,5 @@
 -- The invokes of a state are cancelled, and those of others stay.
-use Rattle.std.proofs.Common.{◌≡◌, ℕ, ◌==◌, ◌||◌, not, Bool, true, false, cond, List, [], ◌∷◌, ◌++◌, filter, map, append-nil, append_assoc, refl, ap, ap₂, sym, ◌∙◌}
+use Rattle.std.proofs.Common.{◌≡◌, ℕ, ◌||◌, not, Bool, true, false, cond, List, [], ◌∷◌, ◌++◌, filter, map, append-nil, append_assoc, refl, ap, ap₂, sym, ◌∙◌}
 use Rattle.std.specs.List.{list_any}
 use Rattle.sc_base.specs.Folds.{each}
 use Rattle.sc_types.specs.declared.effect.Effect.{Effect}

@@ -1,5 +1,5 @@
 -- States are exited one after another.
-use Rattle.std.proofs.Common.{◌≡◌, ℕ, ◌+◌, ◌<◌, ◌≤◌, ◌==◌, ◌||◌, nat_le, not, Bool, true, false, Option, Some, None, All, List, [], ◌∷◌, ◌++◌, find, filter, reverse, append-nil, append_assoc, refl, arith, ap, sym, ◌∙◌}
+use Rattle.std.proofs.Common.{◌≡◌, ℕ, ◌+◌, ◌≤◌, ◌==◌, ◌||◌, nat_le, not, Bool, true, false, Some, None, List, [], ◌∷◌, ◌++◌, find, filter, append-nil, append_assoc, refl, arith, ap, sym, ◌∙◌}
 use Rattle.std.proofs.lemmas.Bool.Decides.{nat_tests}
 use Rattle.std.proofs.lemmas.List.{reverse-append}
 use Rattle.sc_base.specs.Ascending.{without}

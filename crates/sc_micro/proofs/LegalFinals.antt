@@ -1,5 +1,5 @@
 -- A final of a legal chart has one `<donedata>` at most.
-use Rattle.std.proofs.Common.{◌≡◌, ℕ, ◌+◌, ◌-◌, ◌<◌, ◌==◌, ◌&&◌, ◌||◌, not, zero, suc, Bool, true, false, cond, Option, Some, None, option_map, unwrap_or, codes, List, [], ◌∷◌, ◌++◌, length, take, find, get_or, slice_get, append-nil, length-append, refl, arith, ap, subst, sym, ◌∙◌}
+use Rattle.std.proofs.Common.{◌≡◌, ℕ, ◌-◌, ◌<◌, ◌==◌, ◌&&◌, ◌||◌, not, suc, Bool, true, false, cond, Option, Some, None, option_map, unwrap_or, codes, List, [], ◌∷◌, ◌++◌, length, take, find, get_or, slice_get, length-append, refl, arith, ap, subst, sym, ◌∙◌}
 use Rattle.std.proofs.Math.Seq.{get_or-append_seam}
 use Rattle.std.proofs.lemmas.Bool.Decides.{nat_tests}
 use Rattle.std.specs.List.{list_any, AllByRecursion as AllOf}

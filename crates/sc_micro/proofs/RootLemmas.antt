@@ -1,5 +1,5 @@
 -- The root and numbers past it are of no kind; the child elements of a state.
-use Rattle.std.proofs.Common.{◌≡◌, ℕ, ◌≤◌, ◌<◌, ◌&&◌, cond, false, Option, Some, None, List, [], refl, ap, sym, ◌∙◌}
+use Rattle.std.proofs.Common.{◌≡◌, ℕ, ◌≤◌, ◌<◌, ◌&&◌, cond, false, Option, None, [], refl, ap, sym, ◌∙◌}
 use Rattle.std.specs.Option.{option_map_or}
 use Rattle.sc_types.specs.Elements.{is_numbered}
 use Rattle.sc_types.specs.declared.chart.Chart.{Chart}

@@ -2,7 +2,7 @@
 use Rattle.std.proofs.Common.{◌≡◌, inl, inr, ℕ, ◌+◌, ◌<◌, ◌≤◌, ◌==◌, ◌&&◌, ◌||◌, nat_le, nat_lt, not, zero, suc, Bool, true, false, cond, Option, Some, None, List, [], ◌∷◌, filter, filter_map, find, length, refl, arith, ap, ap₂, sym, subst, ◌∙◌}
 use Rattle.std.proofs.lemmas.Bool.{cases_order}
 use Rattle.std.proofs.lemmas.Bool.Decides.{nat_tests}
-use Rattle.std.specs.List.{cons_option, list_all, list_any, range_with_len}
+use Rattle.std.specs.List.{cons_option, list_any, range_with_len}
 use Rattle.std.specs.Option.{option_map_or}
 use Rattle.sc_base.specs.Ascending.{without}
 use Rattle.sc_base.specs.Folds.{each}
@@ -13,7 +13,7 @@ use Rattle.sc_law.specs.Kinds.{is_history}
 use Rattle.sc_law.specs.Leaving.{exit_states}
 use Rattle.sc_law.specs.Microstep.{arrive, microstep, run_content}
 use Rattle.sc_law.specs.Records.{kept_by, record_all}
-use Rattle.sc_law.specs.Runs.{RunState, Running}
+use Rattle.sc_law.specs.Runs.{RunState}
 use Rattle.sc_law.specs.Sets.{Histories, domain, domain_over, effective_targets, exit_set, leaves}
 use Rattle.sc_law.specs.Transitions.{targets}
 use Rattle.sc_law.specs.Tree.{is_below, state_count}

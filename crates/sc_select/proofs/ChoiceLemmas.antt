@@ -1,12 +1,10 @@
 -- What the active atomic states choose, one after another.
-use Rattle.std.proofs.Common.{◌≡◌, ℕ, ◌+◌, ◌≤◌, ◌++◌, Bool, true, false, cond, nat_le, Option, Some, None, All, IfSome, List, [], ◌∷◌, find, filter, ap, sym, ◌∙◌}
-use Rattle.std.proofs.lemmas.List.Elements.{All-append, All-cons, All-nil}
-use Rattle.sc_base.specs.Ascending.{contains}
+use Rattle.std.proofs.Common.{◌≡◌, ℕ, ◌+◌, ◌≤◌, Bool, true, false, cond, nat_le, Option, Some, None, List, [], ◌∷◌, find, filter, ap, sym, ◌∙◌}
 use Rattle.sc_bits.specs.Rows.{IsAscending}
 use Rattle.sc_types.specs.declared.chart.Chart.{Chart}
 use Rattle.sc_law.specs.Kinds.{is_atomic}
 use Rattle.sc_law.specs.Runs.{Running}
-use Rattle.sc_law.specs.Selection.{choose, chosen_from}
+use Rattle.sc_law.specs.Selection.{chosen_from}
 use Rattle.sc_sets.proofs.Members.{from_on, next_none, next_some}
 
 -- a state, where it is atomic, and then the others

@@ -1,9 +1,9 @@
 -- Which transitions are kept.
-use Rattle.std.proofs.Common.{◌≡◌, ℕ, ◌<◌, ◌||◌, ◌&&◌, not, Bool, true, false, cond, All, List, [], ◌∷◌, ◌++◌, length, filter, refl, arith, ap, ap₂, sym}
+use Rattle.std.proofs.Common.{◌≡◌, ℕ, ◌||◌, ◌&&◌, not, Bool, false, cond, All, List, [], ◌∷◌, ◌++◌, filter, refl, ap₂, sym}
 use Rattle.std.proofs.lemmas.List.Elements.{All-filter, All-push, All-same}
 use Rattle.std.specs.List.{list_any, AllByRecursion as AllOf}
 use Rattle.sc_types.specs.declared.chart.Chart.{Chart}
-use Rattle.sc_law.specs.Selection.{conflicts, gives_way, keep, kept_of}
+use Rattle.sc_law.specs.Selection.{conflicts, gives_way, keep}
 use Rattle.sc_law.specs.Sets.{Histories}
 use Rattle.sc_law.specs.Transitions.{source}
 use Rattle.sc_law.specs.Tree.{is_below}

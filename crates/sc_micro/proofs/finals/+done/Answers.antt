@@ -2,7 +2,6 @@ use Rattle.std.proofs.Common.{◌≡◌, ◌-◌, suc, Some, ap, sym, arith, ◌
 use Rattle.std.specs.List.{list_all}
 use Rattle.sc_bits.specs.Rows.{RowOf}
 use Rattle.sc_types.specs.declared.state_kind.StateKind.{StateKind}
-use Rattle.sc_types.specs.declared.state_kind.StateKind.TheVariants as kind
 use Rattle.sc_law.specs.Entering.{is_in_final}
 use Rattle.sc_sets.proofs.Members.{all_from}
 use Rattle.sc_micro.proofs.FinalLemmas.{all-end, all-here, all-next, done-compound, done-none, done-other, done-parallel, no-compound, no-parallel}
