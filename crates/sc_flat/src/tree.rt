@@ -200,4 +200,3 @@ fn state_paths(alloc: Global, chart: &Chart) -> Result<Sequence<Path>, NoMemory>
     }
     Ok(paths)
 }
-

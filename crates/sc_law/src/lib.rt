@@ -9,7 +9,5 @@ mod turned;
 
 pub use defaults::default_ids;
 pub use engine::Engine;
-pub use tree::{
-    Path, element, element_paths, has_states, is_atomic_element, leads_on, node_at,
-};
+pub use tree::{Path, element, element_paths, has_states, is_atomic_element, leads_on, node_at};
 pub use turned::Turned;

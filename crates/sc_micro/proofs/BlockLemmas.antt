@@ -1,7 +1,6 @@
 -- Blocks, one element after another.
 use Rattle.std.proofs.Common.{◌≡◌, ℕ, ◌+◌, ◌<◌, ◌==◌, Bool, true, false, cond, List, ◌∷◌, [], ◌++◌, drop, filter, flat_map, length, get_or, refl, ap, ap₂, sym, ◌∙◌, add-one, drop-cons}
 use Rattle.std.proofs.lemmas.List.{drop_more}
-use Rattle.sc_base.specs.Folds.{each}
 use Rattle.sc_types.specs.declared.chart.Chart.{Chart}
 use Rattle.sc_types.specs.declared.chart.Node.{Node}
 use Rattle.sc_types.specs.declared.chart.Tag.{Tag}
@@ -39,6 +38,7 @@ pub noted-step : (c : Chart) (noted : List ℕ) (i s : ℕ) (r : Running) → i 
 noted-step c noted i s r within =
     let h = get_or noted i 0 in
     let rest = filter (λ h. parent_of c h == s) (drop (i + 1) noted) in
-    sym (ap (λ ns. run_blocks (flat_map (kids_of c) (filter (λ h. parent_of c h == s) ns)) r) (drop_more noted i 0 within)
+    sym (ap (λ ns. run_blocks (flat_map (kids_of c) (filter (λ h. parent_of c h == s) ns)) r)
+    (drop_more noted i 0 within)
     ∙ ap (λ (ms : List Node). run_blocks ms r) (parts-of (kids_of c) h rest (parent_of c h == s))
     ∙ blocks-append (cond (parent_of c h == s) (kids_of c h) []) (flat_map (kids_of c) rest) r)

@@ -1,7 +1,6 @@
 -- The end of a session: all states are exited, and then a final under the root gives its data.
-use Rattle.std.proofs.Common.{◌≡◌, ℕ, ◌==◌, ◌&&◌, Bool, true, false, cond, Option, Some, None, Result, Ok, Err, IfOk, List, [], ◌∷◌, filter, find, refl, ap, sym, ◌∙◌}
+use Rattle.std.proofs.Common.{◌≡◌, ℕ, ◌==◌, ◌&&◌, Bool, true, false, cond, Some, None, Result, Ok, Err, IfOk, List, [], ◌∷◌, filter, find, refl, ap, sym, ◌∙◌}
 use Rattle.sc_types.specs.declared.chart.Chart.{Chart}
-use Rattle.sc_types.specs.declared.event.Data.{Data}
 use Rattle.sc_types.specs.declared.event.Data.TheVariants.{Absent}
 use Rattle.sc_law.specs.Configurations.{parent_of}
 use Rattle.sc_law.specs.Entering.{done_data}
@@ -9,7 +8,7 @@ use Rattle.sc_law.specs.Kinds.{is_final}
 use Rattle.sc_law.specs.Leaving.{leave_all}
 use Rattle.sc_law.specs.Runs.{Running}
 use Rattle.sc_law.specs.Tree.{root}
-use Rattle.sc_law.specs.Turn.{exit_all, final_data, top_finals}
+use Rattle.sc_law.specs.Turn.{exit_all, final_data}
 
 -- what follows of a value that a call gave
 pub if_value : {X E : Type 0} (r : Result X E) (P Q : X → Type 0) → IfOk r P → ((x : X) → P x → Q x) → IfOk r Q
@@ -46,7 +45,8 @@ left-all c r left ss e l =
     ∙ ap (final_data c (filter (is_top_final c) ss)) (sym l)
 
 -- the first final under the root gives its data
-pub ended-some : (c : Chart) (r left : Running) (ss : List ℕ) (s : ℕ) → ss ≡ r.env.configuration → left ≡ leave_all c ss r
+pub ended-some : (c : Chart) (r left : Running) (ss : List ℕ) (s : ℕ) → ss ≡ r.env.configuration
+    → left ≡ leave_all c ss r
     → Some s ≡ find (is_top_final c) ss → exit_all c r ≡ done_data c s left
 ended-some c r left ss s e l f = left-all c r left ss e l ∙ final-some c (is_top_final c) ss s left f
 

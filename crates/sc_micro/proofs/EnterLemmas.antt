@@ -1,5 +1,5 @@
 -- States are entered one after another.
-use Rattle.std.proofs.Common.{◌≡◌, ℕ, ◌+◌, ◌<◌, ◌≤◌, nat_le, Bool, true, false, cond, not, Option, Some, None, List, [], ◌∷◌, find, refl, ap, sym, ◌∙◌}
+use Rattle.std.proofs.Common.{◌≡◌, ℕ, ◌+◌, ◌≤◌, nat_le, Bool, Some, None, List, find, ap, sym, ◌∙◌}
 use Rattle.sc_base.specs.Ascending.{contains}
 use Rattle.sc_base.specs.Folds.{each}
 use Rattle.sc_bits.specs.Rows.{IsAscending}
@@ -21,7 +21,8 @@ step-next step ms w from s r q form e l h =
     ap (each step (from_on (s + 1) ms)) h ∙ ap (λ xs. each step xs r) (sym (next_some 0 w from s ms form e l))
 
 -- none is left
-pub step-end : (step : ℕ → Running → Running) (ms : List ℕ) (from : ℕ) (r : Running) → None ≡ find (λ m. nat_le from m) ms
+pub step-end : (step : ℕ → Running → Running) (ms : List ℕ) (from : ℕ) (r : Running)
+    → None ≡ find (λ m. nat_le from m) ms
     → r ≡ each step (from_on from ms) r
 step-end step ms from r e = ap (λ xs. each step xs r) (sym (next_none from ms e))
 
@@ -33,4 +34,5 @@ pub entered-is : (c : Chart) (e : EntryTriple) (s : ℕ) (r joined late begun in
 unfolding enter_state
 entered-is c e s r joined late begun initial noted new was w j d b i n t =
     t ∙ ap (told c s) (n ∙ ap (run_blocks (noted_of c e s)) (i ∙ ap (run_blocks (initial_of c e s))
-    (b ∙ ap (run_blocks (with_tag tag.OnEntry (kids_of c s))) (d ∙ ap (λ v. late_data c s v joined) w ∙ ap (late_data c s (contains r.entered s)) j))))
+    (b ∙ ap (run_blocks (with_tag tag.OnEntry (kids_of c s)))
+    (d ∙ ap (λ v. late_data c s v joined) w ∙ ap (late_data c s (contains r.entered s)) j))))

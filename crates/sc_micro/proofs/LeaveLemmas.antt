@@ -1,5 +1,5 @@
 -- States are exited one after another.
-use Rattle.std.proofs.Common.{◌≡◌, ℕ, ◌+◌, ◌<◌, ◌≤◌, ◌==◌, ◌||◌, nat_le, not, Bool, true, false, Option, Some, None, All, List, [], ◌∷◌, ◌++◌, find, filter, reverse, append-nil, append_assoc, refl, arith, ap, sym, ◌∙◌}
+use Rattle.std.proofs.Common.{◌≡◌, ℕ, ◌+◌, ◌≤◌, ◌==◌, ◌||◌, nat_le, not, Bool, true, false, Some, None, List, [], ◌∷◌, ◌++◌, find, filter, append-nil, append_assoc, refl, arith, ap, sym, ◌∙◌}
 use Rattle.std.proofs.lemmas.Bool.Decides.{nat_tests}
 use Rattle.std.proofs.lemmas.List.{reverse-append}
 use Rattle.sc_base.specs.Ascending.{without}
@@ -44,7 +44,8 @@ leave-last c states left s r e =
     ap (λ ss. each (leave c) ss r) (sym (reverse-append left (s ∷ []))) ∙ ap (λ ss. leave_all c ss r) (sym e)
 
 -- one member more
-pub member-next : (old new ms : List ℕ) (w from m : ℕ) → IsAscending 0 w ms → Some m ≡ find (λ m. nat_le from m) ms → from ≤ m
+pub member-next : (old new ms : List ℕ) (w from m : ℕ) → IsAscending 0 w ms → Some m ≡ find (λ m. nat_le from m) ms
+    → from ≤ m
     → new ≡ old ++ m ∷ [] → new ++ from_on (m + 1) ms ≡ old ++ from_on from ms
 member-next old new ms w from m form e l n =
     ap (λ xs. xs ++ from_on (m + 1) ms) n ∙ append_assoc old (m ∷ []) (from_on (m + 1) ms)

@@ -1,5 +1,5 @@
 -- A final of a legal chart has one `<donedata>` at most.
-use Rattle.std.proofs.Common.{◌≡◌, ℕ, ◌+◌, ◌-◌, ◌<◌, ◌==◌, ◌&&◌, ◌||◌, not, zero, suc, Bool, true, false, cond, Option, Some, None, option_map, unwrap_or, codes, List, [], ◌∷◌, ◌++◌, length, take, find, get_or, slice_get, append-nil, length-append, refl, arith, ap, subst, sym, ◌∙◌}
+use Rattle.std.proofs.Common.{◌≡◌, ℕ, ◌-◌, ◌<◌, ◌==◌, ◌&&◌, ◌||◌, not, suc, Bool, true, false, cond, Option, Some, None, option_map, unwrap_or, codes, List, [], ◌∷◌, ◌++◌, length, take, find, get_or, slice_get, length-append, refl, arith, ap, subst, sym, ◌∙◌}
 use Rattle.std.proofs.Math.Seq.{get_or-append_seam}
 use Rattle.std.proofs.lemmas.Bool.Decides.{nat_tests}
 use Rattle.std.specs.List.{list_any, AllByRecursion as AllOf}
@@ -38,7 +38,8 @@ no-number : (o : Option ℕ) (path : Path) → option_map (λ n. fault n path []
 no-number None path h = refl
 no-number (Some n) path h = absurd (cc)
 
-no-test : (o : Option (ℕ × (Chart → Path → Bool))) → option_map (λ (t : ℕ × (Chart → Path → Bool)). t.0) o ≡ None → o ≡ None
+no-test : (o : Option (ℕ × (Chart → Path → Bool))) → option_map (λ (t : ℕ × (Chart → Path → Bool)). t.0) o ≡ None
+    → o ≡ None
 no-test None h = refl
 no-test (Some t) h = absurd (cc)
 
@@ -108,30 +109,38 @@ abbrev pub IsOnly : List Node → Type 0
 IsOnly ns = (k : ℕ) (kid : Node) → slice_get ns k ≡ Some kid → is_tag tag.DoneData (tag_of kid) ≡ true
     → list_any (λ n. is_tag tag.DoneData (tag_of n)) (take k ns) ≡ false
 
-no-earlier : (c : Chart) (q : Path) → is_bad_kid c q tag.Final tag.DoneData ≡ false → has_earlier tag.DoneData c q ≡ false
+no-earlier : (c : Chart) (q : Path) → is_bad_kid c q tag.Final tag.DoneData ≡ false
+    → has_earlier tag.DoneData c q ≡ false
 no-earlier c q h =
     second (not (may_hold tag.Final tag.DoneData)) (has_earlier tag.DoneData c q)
     (is_tag tag.DoneData tag.Final && is_tag tag.Param tag.DoneData && has_kid tag.Content (element c (parent q)))
     (is_among (tag.Raise ∷ tag.Send ∷ []) tag.DoneData && is_in_finalize c (length q) q)
     (is_tag tag.If tag.Final && is_among (tag.ElseIf ∷ tag.Else ∷ []) tag.DoneData && has_earlier tag.Else c q) h
 
-only-of : (c : Chart) (p : Path) (n : Node) → legal_fault c ≡ None → node_at c.root p ≡ Some n → element c p ≡ n → tag_of n ≡ tag.Final
+only-of : (c : Chart) (p : Path) (n : Node) → legal_fault c ≡ None → node_at c.root p ≡ Some n → element c p ≡ n
+    → tag_of n ≡ tag.Final
     → IsOnly (kids n)
 only-of c p n legal at is final k kid found done =
     let q = p ++ k ∷ [] in
     let at_kid = kid-at c.root n kid p k at found in
     let is_kid : element c q ≡ kid = ap (λ (o : Option Node). unwrap_or o c.root) at_kid in
-    let fine : is_bad_child c q ≡ false = element-has (λ q. is_bad_child c q ≡ false) c.root kid [] q at_kid (legal-children c legal) in
-    let inside : is_bad_kid c q (tag_of (element c (parent q))) (tag_of (element c q)) ≡ false = rw (kid-no-root p k) at fine in
-    let above : tag_of (element c (parent q)) ≡ tag.Final = ap (λ q. tag_of (element c q)) (parent-of-kid p k) ∙ ap tag_of is ∙ final in
+    let fine : is_bad_child c q ≡ false = element-has (λ q. is_bad_child c q ≡ false) c.root kid [] q at_kid
+    (legal-children c legal) in
+    let inside : is_bad_kid c q (tag_of (element c (parent q))) (tag_of (element c q))
+    ≡ false = rw (kid-no-root p k) at fine in
+    let above : tag_of (element c (parent q)) ≡ tag.Final = ap (λ q. tag_of (element c q)) (parent-of-kid p k)
+    ∙ ap tag_of is ∙ final in
     let own : tag_of (element c q) ≡ tag.DoneData = ap tag_of is_kid ∙ tag-is (tag_of kid) done in
     let none : has_earlier tag.DoneData c q ≡ false = no-earlier c q (rw own at (rw above at inside)) in
-    sym (ap (λ i. list_any (λ m. is_tag tag.DoneData (tag_of m)) (take i (kids (element c (parent q))))) (place-of-kid p k)
+    sym (ap (λ i. list_any (λ m. is_tag tag.DoneData (tag_of m)) (take i (kids (element c (parent q)))))
+    (place-of-kid p k)
     ∙ ap (λ r. list_any (λ m. is_tag tag.DoneData (tag_of m)) (take k (kids (element c r)))) (parent-of-kid p k)
     ∙ ap (λ (m : Node). list_any (λ m. is_tag tag.DoneData (tag_of m)) (take k (kids m))) is) ∙ none
 
-pub final-only : (c : Chart) (s : ℕ) → legal_fault c ≡ None → s < state_count c → is_final c s ≡ true → IsOnly (kids (state_element c s))
+pub final-only : (c : Chart) (s : ℕ) → legal_fault c ≡ None → s < state_count c → is_final c s ≡ true
+    → IsOnly (kids (state_element c s))
 final-only c s legal l final =
     let has = state-node c s legal l in
-    let tagged : tag_of has.0 ≡ tag.Final = sym (ap tag_of has.1.1) ∙ final-tag (state_element c s) (tag_of (state_element c s)) final in
+    let tagged : tag_of has.0 ≡ tag.Final = sym (ap tag_of has.1.1)
+    ∙ final-tag (state_element c s) (tag_of (state_element c s)) final in
     subst (λ (n : Node). IsOnly (kids n)) (sym has.1.1) (only-of c (path_of c s) has.0 legal has.1.0 has.1.1 tagged)

@@ -1,5 +1,5 @@
 -- The root and numbers past it are of no kind; the child elements of a state.
-use Rattle.std.proofs.Common.{◌≡◌, ℕ, ◌≤◌, ◌<◌, ◌&&◌, cond, false, Option, Some, None, List, [], refl, ap, sym, ◌∙◌}
+use Rattle.std.proofs.Common.{◌≡◌, ℕ, ◌≤◌, ◌<◌, ◌&&◌, cond, false, Option, None, [], refl, ap, sym, ◌∙◌}
 use Rattle.std.specs.Option.{option_map_or}
 use Rattle.sc_types.specs.Elements.{is_numbered}
 use Rattle.sc_types.specs.declared.chart.Chart.{Chart}
@@ -28,16 +28,19 @@ no_kind n t h = refl
 
 past_kind : (c : Chart) (s : ℕ) → legal_fault c ≡ None → state_count c ≤ s → kind_of c s ≡ None
 past_kind c s legal l =
-    ap (λ (n : Node). kind_at n (tag_of n)) (ap (element c) (past-root c s l)) ∙ no_kind c.root (tag_of c.root) (root_not_numbered c legal)
+    ap (λ (n : Node). kind_at n (tag_of n)) (ap (element c) (past-root c s l))
+    ∙ no_kind c.root (tag_of c.root) (root_not_numbered c legal)
 
 -- a number past the states is that of no parallel
 pub past_parallel : (c : Chart) (s : ℕ) → legal_fault c ≡ None → state_count c ≤ s → is_parallel c s ≡ false
-past_parallel c s legal l = ap (λ (o : Option StateKind). option_map_or (is_kind kind.Parallel) o false) (past_kind c s legal l)
+past_parallel c s legal l = ap (λ (o : Option StateKind). option_map_or (is_kind kind.Parallel) o false)
+    (past_kind c s legal l)
 
 -- a number that is no parallel's is told of nothing
 pub untold : (c : Chart) (s : ℕ) (r : Running) → is_parallel c s ≡ false → r ≡ tell_parallel c s r
 untold c s r e =
-    sym (ap (λ v. (cond (v && is_in_final c r.env.configuration (state_count c) s) (enqueue (done_event c s Absent)) (λ same. same)) r) e)
+    sym (ap (λ v. (cond (v && is_in_final c r.env.configuration (state_count c) s) (enqueue (done_event c s Absent))
+    (λ same. same)) r) e)
 
 -- the child elements of a state are those of its element
 pub kids_are : (c : Chart) (s : ℕ) → legal_fault c ≡ None → s < state_count c → kids_of c s ≡ kids (state_element c s)

@@ -59,7 +59,8 @@ parts-meet : (p q : ℕ → Bool) (set ms : List ℕ) → AreIn set ms
 parts-meet p q set [] h = refl
 parts-meet p q set (m ∷ ms) h = by (q m) (parts-meet p q set ms h.1) where
   by : (v : Bool) → list_any (λ m. contains (filter p set) m) (filter q ms) ≡ list_any (λ s. q s && p s) ms
-      → list_any (λ m. contains (filter p set) m) (cond v (m ∷ filter q ms) (filter q ms)) ≡ ((v && p m) || list_any (λ s. q s && p s) ms)
+      → list_any (λ m. contains (filter p set) m) (cond v (m ∷ filter q ms) (filter q ms))
+      ≡ ((v && p m) || list_any (λ s. q s && p s) ms)
   by true e = ap₂ (λ (x y : Bool). x || y) (contains-filter p m set ∙ ap (λ x. x && p m) h.0) e
   by false e = e
 
@@ -68,7 +69,8 @@ pub exits-meet : (c : Chart) (h : Histories) (t u : ℕ) (conf : List ℕ)
     → list_any (λ m. contains (exit_set c h (u ∷ []) conf) m) (exit_set c h (t ∷ []) conf) ≡ conflicts c h conf t u
 unfolding exit_set
 exits-meet c h t u conf =
-    parts-meet (λ s. list_any (λ t. leaves c h t s) (u ∷ [])) (λ s. list_any (λ t. leaves c h t s) (t ∷ [])) conf conf (in-itself conf)
+    parts-meet (λ s. list_any (λ t. leaves c h t s) (u ∷ [])) (λ s. list_any (λ t. leaves c h t s) (t ∷ [])) conf conf
+    (in-itself conf)
     ∙ any_same _ (λ s. leaves c h t s && leaves c h u s)
     (λ s. ap₂ (λ (x y : Bool). x && y) (one (leaves c h t s)) (one (leaves c h u s))) conf
 
@@ -78,7 +80,8 @@ meets-all : (c : Chart) (h : Histories) (t : ℕ) (kept conf : List ℕ)
     ≡ list_any (λ s. leaves c h t s && list_any (λ u. leaves c h u s) kept) conf
 unfolding exit_set
 meets-all c h t kept conf =
-    parts-meet (λ s. list_any (λ u. leaves c h u s) kept) (λ s. list_any (λ t. leaves c h t s) (t ∷ [])) conf conf (in-itself conf)
+    parts-meet (λ s. list_any (λ u. leaves c h u s) kept) (λ s. list_any (λ t. leaves c h t s) (t ∷ [])) conf conf
+    (in-itself conf)
     ∙ any_same _ (λ s. leaves c h t s && list_any (λ u. leaves c h u s) kept)
     (λ s. ap (λ (x : Bool). x && list_any (λ u. leaves c h u s) kept) (one (leaves c h t s))) conf
 
@@ -97,7 +100,8 @@ apart-each : (c : Chart) (h : Histories) (t : ℕ) (kept conf : List ℕ)
     → AllOf (λ u. conflicts c h conf t u ≡ false) kept
 apart-each c h t [] conf none = tt
 apart-each c h t (u ∷ us) conf none = (
-  any-fewer (λ s. leaves c h t s && leaves c h u s) (λ s. leaves c h t s && (leaves c h u s || list_any (λ u. leaves c h u s) us)) conf
+  any-fewer (λ s. leaves c h t s && leaves c h u s)
+      (λ s. leaves c h t s && (leaves c h u s || list_any (λ u. leaves c h u s) us)) conf
       (λ s. first-of (leaves c h t s) (leaves c h u s) (list_any (λ u. leaves c h u s) us)) none,
   apart-each c h t us conf (any-fewer (λ s. leaves c h t s && list_any (λ u. leaves c h u s) us)
       (λ s. leaves c h t s && (leaves c h u s || list_any (λ u. leaves c h u s) us)) conf
@@ -106,7 +110,8 @@ apart-each c h t (u ∷ us) conf none = (
 
 -- a transition whose exits meet none of those of the others conflicts with none of them
 pub none-conflict : (c : Chart) (h : Histories) (t : ℕ) (kept conf own all : List ℕ) → own ≡ exit_set c h (t ∷ []) conf
-    → all ≡ exit_set c h kept conf → list_any (λ m. contains all m) own ≡ false → AllOf (λ u. conflicts c h conf t u ≡ false) kept
+    → all ≡ exit_set c h kept conf → list_any (λ m. contains all m) own ≡ false
+    → AllOf (λ u. conflicts c h conf t u ≡ false) kept
 none-conflict c h t kept conf own all o a none =
     apart-each c h t kept conf (sym (meets-all c h t kept conf)
     ∙ ap₂ (λ (xs ys : List ℕ). list_any (λ m. contains xs m) ys) (sym a) (sym o) ∙ none)

@@ -12,7 +12,8 @@ use Rattle.sc_tables.proofs.Within.{all_below}
 
 -- a state's own transitions are transitions
 pub own-within : (c : Chart) (s : ℕ) → All (λ tr. tr < length (transition_paths c)) (transitions_of c s)
-own-within c s = all_below (length (transition_paths c)) (transitions_of c s) (numbers-below _ 0 (length (transition_paths c)) (transition_paths c) (omega arith))
+own-within c s = all_below (length (transition_paths c)) (transitions_of c s)
+    (numbers-below _ 0 (length (transition_paths c)) (transition_paths c) (omega arith))
 
 abbrev Found : Type 0
 Found = Option ℕ × Running
@@ -29,20 +30,28 @@ first-append : (c : Chart) (event : Option (List ℕ)) (xs ys : List ℕ) (r : R
     → first_enabled c event (xs ++ ys) r ≡ then_ (first_enabled c event ys) (first_enabled c event xs r)
 first-append c event [] ys r = refl
 first-append c event (x ∷ xs) ys r = by (is_match c event x) (first-append c event xs ys) where
-  chosen : (v : Bool) (q : Running) → first_enabled c event (xs ++ ys) q ≡ then_ (first_enabled c event ys) (first_enabled c event xs q)
-      → (cond v (found x) (first_enabled c event (xs ++ ys))) q ≡ then_ (first_enabled c event ys) ((cond v (found x) (first_enabled c event xs)) q)
+  chosen : (v : Bool) (q : Running) → first_enabled c event (xs ++ ys) q
+      ≡ then_ (first_enabled c event ys) (first_enabled c event xs q)
+      → (cond v (found x) (first_enabled c event (xs ++ ys))) q
+      ≡ then_ (first_enabled c event ys) ((cond v (found x) (first_enabled c event xs)) q)
   chosen true q so = refl
   chosen false q so = so
 
-  by : (v : Bool) → ((q : Running) → first_enabled c event (xs ++ ys) q ≡ then_ (first_enabled c event ys) (first_enabled c event xs q))
-      → (cond v (λ q. (cond (holds (condition c x) q).0 (found x) (first_enabled c event (xs ++ ys))) (holds (condition c x) q).1) (first_enabled c event (xs ++ ys))) r
-      ≡ then_ (first_enabled c event ys) ((cond v (λ q. (cond (holds (condition c x) q).0 (found x) (first_enabled c event xs)) (holds (condition c x) q).1) (first_enabled c event xs)) r)
+  by : (v : Bool) → ((q : Running) → first_enabled c event (xs ++ ys) q
+      ≡ then_ (first_enabled c event ys) (first_enabled c event xs q))
+      → (cond v (λ q. (cond (holds (condition c x) q).0 (found x) (first_enabled c event (xs ++ ys)))
+      (holds (condition c x) q).1) (first_enabled c event (xs ++ ys))) r
+      ≡ then_ (first_enabled c event ys) ((cond v
+      (λ q. (cond (holds (condition c x) q).0 (found x) (first_enabled c event xs)) (holds (condition c x) q).1)
+      (first_enabled c event xs)) r)
   by true so = chosen (holds (condition c x) r).0 (holds (condition c x) r).1 (so (holds (condition c x) r).1)
   by false so = so r
 
 -- nothing was found among a state's own transitions: those of its ancestors are looked at
-pub found-later : (c : Chart) (event : Option (List ℕ)) (s : ℕ) (above o : Option ℕ) (r new : Running) → is_some o ≡ false
-    → first_enabled c event (transitions_of c s) r ≡ (o, new) → ancestors c s ≡ option_map_or (λ p. p ∷ ancestors c p) above []
+pub found-later : (c : Chart) (event : Option (List ℕ)) (s : ℕ) (above o : Option ℕ) (r new : Running)
+    → is_some o ≡ false
+    → first_enabled c event (transitions_of c s) r ≡ (o, new)
+    → ancestors c s ≡ option_map_or (λ p. p ∷ ancestors c p) above []
     → first_enabled c event (flat_map (transitions_of c) (option_map_or (λ p. p ∷ ancestors c p) above [])) new
     ≡ first_enabled c event (flat_map (transitions_of c) (s ∷ ancestors c s)) r
 found-later c event s above None r new n e a =

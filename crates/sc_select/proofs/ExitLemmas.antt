@@ -66,11 +66,13 @@ pub exit-more : (c : Chart) (h : Histories) (trs : List ℕ) (tr : ℕ) (conf : 
     → joined (exit_set c h trs conf) (exit_set c h (tr ∷ []) conf) ≡ exit_set c h (trs ++ tr ∷ []) conf
 unfolding exit_set
 exit-more c h trs tr conf w form =
-    joined-filters (λ s. list_any (λ t. leaves c h t s) trs) (λ s. list_any (λ t. leaves c h t s) (tr ∷ [])) 0 w conf form
+    joined-filters (λ s. list_any (λ t. leaves c h t s) trs)
+    (λ s. list_any (λ t. leaves c h t s) (tr ∷ [])) 0 w conf form
     ∙ filter_same _ _ (λ s. sym (list_any-append (λ t. leaves c h t s) trs (tr ∷ []))) conf
 
 -- the transition at a place, after those before it
-pub exit-step : (c : Chart) (h : Histories) (trs : List ℕ) (i : ℕ) (conf all own new : List ℕ) (w : ℕ) → IsAscending 0 w conf → i < length trs
+pub exit-step : (c : Chart) (h : Histories) (trs : List ℕ) (i : ℕ) (conf all own new : List ℕ) (w : ℕ)
+    → IsAscending 0 w conf → i < length trs
     → all ≡ exit_set c h (take i trs) conf → own ≡ exit_set c h (get_or trs i 0 ∷ []) conf → new ≡ joined all own
     → new ≡ exit_set c h (take (i + 1) trs) conf
 exit-step c h trs i conf all own new w form l a o n =

@@ -16,13 +16,17 @@ ids_within : (c : Chart) (n s m : ℕ) → s + m ≤ n → AreWithin n (filter_m
 ids_within c n s zero l = tt
 ids_within c n s (suc m) l = by (is_history c s) (ids_within c n (s + 1) m (omega arith)) where
   by : (v : Bool) → AreWithin n (filter_map (id_row c) (range_with_len (s + 1) m))
-      → AreWithin n (cons_option (cond v None (Some (state_id c s, s))) (filter_map (id_row c) (range_with_len (s + 1) m)))
+      → AreWithin n (cons_option (cond v None (Some (state_id c s, s)))
+      (filter_map (id_row c) (range_with_len (s + 1) m)))
   by true h = h
   by false h = (omega arith, h)
 
 -- the ids name states of the configuration's width
 pub run_has_ids : (c : Chart) (r : Running) → IsRunOf c r → HasIds r.env
-run_has_ids c r h = record { within = rw (h.configuration, h.ids) (ids_within c (state_count c) 0 (state_count c) (omega arith)) }
+run_has_ids c r h = record {
+  within = rw (h.configuration, h.ids)
+      (ids_within c (state_count c) 0 (state_count c) (omega arith));
+}
 
 -- content leaves it a run over the tables
 pub run_kept : (c : Chart) (old new : Running) → IsRunOf c old → KeepsRows old new → IsRunOf c new

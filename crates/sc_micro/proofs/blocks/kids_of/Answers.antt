@@ -5,4 +5,5 @@ use Rattle.sc_micro.proofs.blocks.kids_of.Goals as goal
 
 pub returns : goal.returns
 returns c =
-    c.slice.ensures ∙ ap kids c.element.ensures ∙ sym (kids_are c.args.t.now c.args.s c.chart-chart.ensures.legal c.requires)
+    c.slice.ensures ∙ ap kids c.element.ensures
+    ∙ sym (kids_are c.args.t.now c.args.s c.chart-chart.ensures.legal c.requires)

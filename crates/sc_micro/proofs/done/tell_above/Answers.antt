@@ -10,5 +10,6 @@ pub returns-in-None-clause-ok : goal.returns-in-None-clause-ok
 returns-in-None-clause-ok c =
     let k = c.args.t.now in
     let other : is_parallel k (parent_of k c.args.s) ≡ false =
-    ap (is_parallel k) (sym c.in-None.ensures.value) ∙ past_parallel k (root k) c.chart-chart.ensures.legal (omega arith) in
+    ap (is_parallel k) (sym c.in-None.ensures.value)
+    ∙ past_parallel k (root k) c.chart-chart.ensures.legal (omega arith) in
     untold k (parent_of k c.args.s) (running_of c.args.run.now) other

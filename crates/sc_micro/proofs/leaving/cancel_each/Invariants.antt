@@ -6,4 +6,5 @@ use Rattle.sc_micro.proofs.leaving.cancel_each.Given as goal
 
 abbrev pub invariant-loop-invoked : goal.invariant-loop-invoked
 invariant-loop-invoked l =
-    l.effects ≡ l.fn.effects ++ map (λ (i : Invoked). CancelChild i.child) (filter (is_of l.s) (take l.invoked-index l.invokes))
+    l.effects ≡ l.fn.effects ++ map (λ (i : Invoked). CancelChild i.child)
+    (filter (is_of l.s) (take l.invoked-index l.invokes))

@@ -16,6 +16,7 @@ pub returns-clause-ok : goal.returns-clause-ok
 returns-clause-ok c =
     cancelled-is c.args.s (running_of c.args.run.now) c.cancel_each.new.effects c.in_ok-run.field-0
     (c.in_ok-cancel_each.ensures
-    ∙ ap (λ (is : List Invoked). c.args.run.now.effects ++ map (λ (i : Invoked). CancelChild i.child) (filter (is_of c.args.s) is))
+    ∙ ap (λ (is : List Invoked). c.args.run.now.effects ++ map (λ (i : Invoked). CancelChild i.child)
+    (filter (is_of c.args.s) is))
     c.slice-2.ensures)
     (c.in_ok-run.ensures ∙ ap (filter (λ (i : Invoked). not (is_of c.args.s i))) c.slice-3.ensures)

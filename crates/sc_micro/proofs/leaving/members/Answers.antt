@@ -7,20 +7,26 @@ use Rattle.sc_micro.proofs.leaving.members.Goals as goal
 
 pub loop-member-init : goal.loop-member-init
 loop-member-init c = record {
-  rest = ap (λ (xs : List ℕ). xs ++ from_on 0 c.args.row.now.members) c.new-members.ensures ∙ all_from c.args.row.now.members;
-  within = subst (λ (ms : List ℕ). All (λ m. m < state_count c.args.t.now) ms) (sym c.new-members.ensures) (All-nil (λ (m : ℕ). m < state_count c.args.t.now));
+  rest = ap (λ (xs : List ℕ). xs ++ from_on 0 c.args.row.now.members) c.new-members.ensures
+      ∙ all_from c.args.row.now.members;
+  within = subst (λ (ms : List ℕ). All (λ m. m < state_count c.args.t.now) ms) (sym c.new-members.ensures)
+      (All-nil (λ (m : ℕ). m < state_count c.args.t.now));
 }
 
 pub loop-member-preserved : goal.loop-member-preserved
 loop-member-preserved c =
     let less : c.in-Some.member < state_count c.args.t.now = omega (arith, c.in-Some.ensures.within.1, c.requires) in
     record {
-      rest = member-next c.loop-member.members c.push.new.self c.args.row.now.members c.args.row.now.width c.loop-member.from c.in-Some.member
-          c.in-Some.ensures.form c.in-Some.ensures.value c.in-Some.ensures.within.0 c.in_ok-push.ensures.ok ∙ c.loop-member.invariant.rest;
+      rest = member-next c.loop-member.members c.push.new.self c.args.row.now.members c.args.row.now.width
+          c.loop-member.from c.in-Some.member
+          c.in-Some.ensures.form c.in-Some.ensures.value c.in-Some.ensures.within.0 c.in_ok-push.ensures.ok
+          ∙ c.loop-member.invariant.rest;
       within = All-same (λ (m : ℕ). m < state_count c.args.t.now) c.push.new.self _ c.in_ok-push.ensures.ok
-          (All-push (λ (m : ℕ). m < state_count c.args.t.now) c.loop-member.members c.in-Some.member c.loop-member.invariant.within less);
+          (All-push (λ (m : ℕ). m < state_count c.args.t.now) c.loop-member.members c.in-Some.member
+          c.loop-member.invariant.within less);
     }
 
 pub returns-clause-value : goal.returns-clause-value
 returns-clause-value c =
-    sym (member-end c.loop-member.members c.args.row.now.members c.loop-member.from c.in_default.ensures.value) ∙ c.loop-member.invariant.rest
+    sym (member-end c.loop-member.members c.args.row.now.members c.loop-member.from c.in_default.ensures.value)
+    ∙ c.loop-member.invariant.rest

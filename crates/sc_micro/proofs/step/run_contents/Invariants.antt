@@ -7,7 +7,8 @@ use Rattle.sc_micro.proofs.step.run_contents.Given as goal
 
 abbrev pub invariant-loop-tr : goal.invariant-loop-tr
 invariant-loop-tr l = record {
-  steps : each (run_content l.t) (drop l.tr-index l.trs) (running_of l.run) ≡ each (run_content l.t) l.trs (running_of l.fn.run);
+  steps : each (run_content l.t) (drop l.tr-index l.trs) (running_of l.run)
+      ≡ each (run_content l.t) l.trs (running_of l.fn.run);
   kept : KeepsRows l.fn.run l.run;
   ids : HasIds l.run.env;
 }

@@ -1,6 +1,5 @@
 use Rattle.std.proofs.Common.{ap, sym, ◌∙◌}
 use Rattle.sc_law.specs.Runs.{Running}
-use Rattle.sc_exec.specs.Runs.{running_of}
 use Rattle.sc_tables.proofs.TransitionLists.{if_ok}
 use Rattle.sc_select.proofs.RunLemmas.{run_has_ids}
 use Rattle.sc_select.specs.Runs.{run_state}

@@ -12,7 +12,8 @@ abbrev pub invariant-loop-s : goal.invariant-loop-s
 invariant-loop-s l = record {
   steps : chosen_from l.t (option_copied l.event) l.chosen
       (filter (is_atomic l.t) (from_on l.from l.fn.run.env.configuration.members)) (running_of l.run)
-      ≡ chosen_from l.t (option_copied l.event) [] (filter (is_atomic l.t) l.fn.run.env.configuration.members) (running_of l.fn.run);
+      ≡ chosen_from l.t (option_copied l.event) [] (filter (is_atomic l.t) l.fn.run.env.configuration.members)
+      (running_of l.fn.run);
   within : All (λ tr. tr < length (transition_paths l.t)) l.chosen;
   kept : KeepsRows l.fn.run l.run;
   run : IsRunOf l.t l.run;

@@ -14,7 +14,8 @@ returns-clause-value c =
     let h = c.args.h.now in
     let conf = c.args.conf.now.members in
     let kept = c.args.kept.now in
-    let apart = none-conflict k h c.args.tr kept conf c.exit_row.new.into.members c.args.exits.now.all.members c.exit_row.ensures.members
+    let apart = none-conflict k h c.args.tr kept conf c.exit_row.new.into.members c.args.exits.now.all.members
+    c.exit_row.ensures.members
     c.requires.exits.all (sym c.meets.ensures ∙ c.if-meets.false) in
     if_ok c.push.result _ _ c.push.ensures.ok (λ e. e ∙ keep-apart k h conf c.args.tr kept apart)
 

@@ -9,5 +9,6 @@ abbrev pub invariant-loop-tr : goal.invariant-loop-tr
 invariant-loop-tr l = record {
   exits : AreExits l.t l.h l.conf.members l.kept l.exits;
   within : All (λ tr. tr < length (transition_paths l.t)) l.kept;
-  steps : each (keep l.t l.h l.conf.members) (drop l.tr-index l.chosen) l.kept ≡ kept_of l.t l.h l.conf.members l.chosen;
+  steps : each (keep l.t l.h l.conf.members) (drop l.tr-index l.chosen) l.kept
+      ≡ kept_of l.t l.h l.conf.members l.chosen;
 }
