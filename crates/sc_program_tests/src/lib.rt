@@ -16,3 +16,5 @@ mod program;
 mod refusals;
 #[cfg(test)]
 mod reports;
+#[cfg(test)]
+mod worked;

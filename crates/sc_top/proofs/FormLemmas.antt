@@ -3,7 +3,7 @@ use Rattle.std.proofs.Common.{◌≡◌, ℕ, ◌≤◌, List, [], ◌∷◌, �
 use Rattle.std.specs.List.{flat_map}
 use Rattle.sc_types.specs.declared.command.Command.{Command}
 use Rattle.sc_types.specs.declared.command.Command.TheVariants.{Install, Start}
-use Rattle.sc_flat.specs.Lines.{line, command_text}
+use Rattle.sc_top.specs.Lines.{line, command_text}
 use Rattle.sc_top.specs.FirstForm.{post_of, IsFirstForm}
 use Rattle.sc_top.specs.ScriptLines.{IsCut, IsChartLine, IsStartLine, IsPosts, posts_text}
 use Rattle.sc_top.proofs.CutLemmas.{same_cut}

@@ -5,16 +5,7 @@ use Rattle.sc_types.specs.declared.host.SessionImage.{SessionImage}
 use Rattle.sc_types.specs.declared.session.Cue.{Cue}
 use Rattle.sc_types.specs.declared.session.Phase.{Phase}
 use Rattle.sc_types.specs.declared.session.Phase.TheVariants.{Fresh, Running, Ended}
-use Rattle.sc_flat.specs.Host.{session_named, cue_in, cue_of, step_cue, step_in, step_found, step}
-
--- a list that gives each item of another gives it at its place
-pub given_at : {A B : Type 0} (f : A → Option B) (xs : List A) (ys : List B) (i : ℕ)
-    → map f xs ≡ map Some ys → option_and_then f (slice_get xs i) ≡ slice_get ys i
-given_at f [] [] i h = refl
-given_at f [] (y ∷ ys) i h = absurd (cc)
-given_at f (x ∷ xs) [] i h = absurd (cc)
-given_at f (x ∷ xs) (y ∷ ys) zero h = cc
-given_at f (x ∷ xs) (y ∷ ys) (suc i) h = given_at f xs ys i cc
+use Rattle.sc_top.specs.Host.{session_named, cue_in, cue_of, step_cue, step_in, step_found, step}
 
 step_in_taken : (g : HostImage) (place : ℕ) (s : SessionImage) (cue : Cue) (p : Phase)
     → cue_in p s.state.internal s.queued ≡ Some cue → s.state.phase ≡ p → step_in g place s p ≡ step_cue g place s (Some cue)

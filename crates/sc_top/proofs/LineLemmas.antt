@@ -4,7 +4,7 @@ use Rattle.std.specs.Prelude.{codes}
 use Rattle.std.proofs.lemmas.List.{append_cancel_left, append-nil}
 use Rattle.sc_base.specs.Text.{IsWord, IsPlainName}
 use Rattle.sc_types.specs.declared.command.Command.TheVariants.{Install, Start}
-use Rattle.sc_flat.specs.Lines.{command_text}
+use Rattle.sc_top.specs.Lines.{command_text}
 use Rattle.sc_top.specs.FirstForm.{lacks, IsShortName, IsChartText, post_of}
 use Rattle.sc_top.specs.ScriptLines.{IsCut, IsChartLine, IsStartLine, IsPostLine}
 use Rattle.sc_top.proofs.CutLemmas.{same_cut}

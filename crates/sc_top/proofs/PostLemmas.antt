@@ -5,7 +5,7 @@ use Rattle.std.proofs.lemmas.List.Elements.{All-head, All-tail}
 use Rattle.std.proofs.lemmas.Grind.{flat_map-append}
 use Rattle.sc_base.specs.Text.{IsWord, IsPlainName}
 use Rattle.sc_types.specs.declared.command.Command.{Command}
-use Rattle.sc_flat.specs.Lines.{line, command_text}
+use Rattle.sc_top.specs.Lines.{line, command_text}
 use Rattle.sc_top.specs.FirstForm.{post_of}
 use Rattle.sc_top.specs.ScriptLines.{IsCut, IsPosts, posts_text}
 use Rattle.sc_top.proofs.CutLemmas.{same_parts}

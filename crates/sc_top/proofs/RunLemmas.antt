@@ -5,9 +5,9 @@ use Rattle.sc_types.specs.declared.command.Command.TheVariants.{Step}
 use Rattle.sc_types.specs.declared.history.Entry.{Entry}
 use Rattle.sc_types.specs.declared.history.Who.TheVariants.{Client, Worker}
 use Rattle.sc_types.specs.declared.host.HostImage.{HostImage}
-use Rattle.sc_flat.specs.Host.{answer, empty_host, ready}
-use Rattle.sc_flat.specs.History.{replay}
-use Rattle.sc_flat.specs.Run.{makes, of_ready, next, Enters, Continues, IsRun}
+use Rattle.sc_top.specs.Host.{answer, empty_host, ready}
+use Rattle.sc_top.specs.History.{replay}
+use Rattle.sc_top.specs.Run.{makes, of_ready, next, Enters, Continues, IsRun}
 use Rattle.sc_top.specs.Held.{IsHeld}
 use Rattle.sc_top.specs.Running.{Makes, Goes, HasStepped, IsUnderWay, HasRun}
 use Rattle.sc_top.specs.declared.host.Host.{Host}

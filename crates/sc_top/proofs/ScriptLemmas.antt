@@ -2,8 +2,8 @@
 use Rattle.std.proofs.Common.{◌≡◌, ℕ, ◌<◌, ◌≤◌, List, [], ◌∷◌, length, length-append, map, get_or, sym, ap, subst, arith}
 use Rattle.std.specs.List.{flat_map, AllByRecursion}
 use Rattle.sc_types.specs.declared.command.Command.{Command}
-use Rattle.sc_flat.specs.Lines.{line, command_text}
-use Rattle.sc_flat.specs.Run.{IsNoStep}
+use Rattle.sc_top.specs.Lines.{line, command_text}
+use Rattle.sc_top.specs.Run.{IsNoStep}
 use Rattle.sc_top.specs.FirstForm.{post_of, IsFirstForm}
 
 posts_no_step : (session : List ℕ) (events : List (List ℕ)) → AllByRecursion IsNoStep (map (post_of session) events)

@@ -1,12 +1,12 @@
--- The first form of a script: a flat chart, one session of it, and events posted to that session, a line each.
+-- The first form of a script: a chart that this version runs, one session of it, and events posted to that session, a line each.
 -- This host's own rule. It is stated by how the commands are printed, and says nothing of how a text is read.
 use Rattle.std.specs.Prelude.{ℕ, ◌≡◌, ◌≢◌, ◌<◌, ◌≤◌, ◌-◌, ◌==◌, Bool, not, List, [], ◌∷◌, length, map, slice_index, All, IsTrue, IsSome}
 use Rattle.std.specs.List.{list_all, flat_map}
-use Rattle.sc_flat.specs.FlatCharts.{flat_chart_of}
 use Rattle.sc_base.specs.Text.{IsWord, IsPlainName}
 use Rattle.sc_types.specs.declared.command.Command.{Command}
 use Rattle.sc_types.specs.declared.command.Command.TheVariants.{Install, Start, Post}
-use Rattle.sc_flat.specs.Lines.{line, command_text}
+use Rattle.sc_top.specs.AloneCharts.{IsAloneChart}
+use Rattle.sc_top.specs.Lines.{line, command_text}
 use Rattle.sc_top.specs.declared.script_reader.TheConstants.{SCRIPT_LIMIT}
 use Rattle.sc_types.specs.declared.limits.TheConstants.{NAME_LIMIT}
 
@@ -26,7 +26,7 @@ pub record IsChartText (text : List ℕ) : Type 0 where
   pub one_line : IsTrue (lacks 10 text)
   pub no_space_before : slice_index text 0 ≢ 32
   pub no_space_behind : slice_index text (length text - 1) ≢ 32
-  pub flat : IsSome (flat_chart_of text)
+  pub chart : IsAloneChart text
 
 -- the command that posts an event without data
 abbrev pub post_of : List ℕ → List ℕ → Command

@@ -1,6 +1,12 @@
+pub mod AloneCharts
 pub mod FirstForm
 pub mod Held
+pub mod History
+pub mod Host
+pub mod Lines
 pub mod Promise
+pub mod Report
+pub mod Run
 pub mod Running
 pub mod Sayings
 pub mod ScriptLines

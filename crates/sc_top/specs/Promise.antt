@@ -5,12 +5,12 @@ use Rattle.sc_types.specs.declared.chart.Chart.{Chart}
 use Rattle.sc_types.specs.declared.chart.ChartFault.{ChartFault}
 use Rattle.sc_types.specs.declared.command.Command.{Command}
 use Rattle.sc_types.specs.declared.history.Entry.{Entry}
-use Rattle.sc_flat.specs.Host.{empty_host}
-use Rattle.sc_flat.specs.History.{replay}
+use Rattle.sc_top.specs.Host.{empty_host}
+use Rattle.sc_top.specs.History.{replay}
 use Rattle.sc_law.specs.LegalCharts.{legal_chart_of}
-use Rattle.sc_flat.specs.Lines.{line}
-use Rattle.sc_flat.specs.Report.{report, fault_text}
-use Rattle.sc_flat.specs.Run.{IsHistoryOf}
+use Rattle.sc_top.specs.Lines.{line}
+use Rattle.sc_top.specs.Report.{report, fault_text}
+use Rattle.sc_top.specs.Run.{IsHistoryOf}
 use Rattle.sc_top.specs.FirstForm.{IsFirstForm}
 use Rattle.sc_top.specs.Statuses.{code}
 use Rattle.sc_types.specs.declared.limits.TheConstants.{CHART_TEXT_LIMIT}

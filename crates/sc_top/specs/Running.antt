@@ -3,9 +3,9 @@ use Rattle.std.specs.Prelude.{ℕ, ◌≡◌, List, [], ◌∷◌, ◌++◌}
 use Rattle.sc_types.specs.declared.command.Command.{Command}
 use Rattle.sc_types.specs.declared.history.Entry.{Entry}
 use Rattle.sc_types.specs.declared.history.Who.{Who}
-use Rattle.sc_flat.specs.Host.{answer, empty_host}
-use Rattle.sc_flat.specs.History.{replay}
-use Rattle.sc_flat.specs.Run.{of_script, next, Enters, IsRun}
+use Rattle.sc_top.specs.Host.{answer, empty_host}
+use Rattle.sc_top.specs.History.{replay}
+use Rattle.sc_top.specs.Run.{of_script, next, Enters, IsRun}
 use Rattle.sc_top.specs.Held.{IsHeld, Counts}
 use Rattle.sc_top.specs.declared.run.Run.{Run}
 

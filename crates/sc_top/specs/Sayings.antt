@@ -4,8 +4,8 @@ use Rattle.sc_types.specs.ChartTexts.{count_states}
 use Rattle.sc_types.specs.declared.chart.Chart.{Chart}
 use Rattle.sc_types.specs.declared.chart.ChartFault.{ChartFault}
 use Rattle.sc_types.specs.declared.command.Command.{Command}
-use Rattle.sc_flat.specs.Lines.{line}
-use Rattle.sc_flat.specs.Report.{fault_text}
+use Rattle.sc_top.specs.Lines.{line}
+use Rattle.sc_top.specs.Report.{fault_text}
 use Rattle.sc_top.specs.FirstForm.{IsFirstForm}
 use Rattle.sc_top.specs.Promise.{Reports}
 use Rattle.sc_top.specs.declared.saying.Saying.{Saying}

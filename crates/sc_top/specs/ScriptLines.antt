@@ -3,7 +3,7 @@ use Rattle.std.specs.Prelude.{ℕ, ◌≡◌, List, ◌∷◌, ◌++◌, All, Is
 use Rattle.std.specs.List.{flat_map}
 use Rattle.sc_base.specs.Text.{IsPlainName}
 use Rattle.sc_types.specs.declared.command.Command.TheVariants.{Install, Start}
-use Rattle.sc_flat.specs.Lines.{line, command_text}
+use Rattle.sc_top.specs.Lines.{line, command_text}
 use Rattle.sc_top.specs.FirstForm.{lacks, IsShortName, IsChartText, post_of}
 
 -- a text in two at the first of these bytes

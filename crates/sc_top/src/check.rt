@@ -3,17 +3,16 @@ ghost use Rattle.sc_types.specs.declared.chart.ChartFault.{ChartFault};
 ghost use Rattle.sc_types.specs.ChartTexts.{states_in, count_states};
 ghost use Rattle.sc_types.specs.Elements.{is_numbered};
 ghost use Rattle.sc_law.specs.LegalCharts.{legal_chart_of};
-ghost use Rattle.sc_flat.specs.Lines.{line};
-ghost use Rattle.sc_flat.specs.Report.{fault_text};
+ghost use Rattle.sc_top.specs.Lines.{line};
+ghost use Rattle.sc_top.specs.Report.{fault_text};
 ghost use Rattle.sc_top.specs.Sayings.{status_of, text_of, check_status, check_text};
 
+use crate::charts::read_legal_chart;
 use crate::report::lines::put_counted;
 use crate::report::replies::put_fault;
 use crate::saying::Saying;
 use sc_base::{Bytes, NoMemory, TextWriter};
-use sc_chart_json::read_chart;
 use sc_types::{Chart, ChartFault, ChartRefusal, Node, Tag};
-use sc_valid::{LegalChart, validate};
 use std::alloc::Global;
 
 /// What is said of a text that should spell a chart: how many states it has, or its first fault.
@@ -25,16 +24,6 @@ pub(crate) fn check_text(alloc: Global, text: &[u8]) -> Result<Saying, NoMemory>
         Ok(chart) => Ok(Saying::Done(chart_line(alloc, chart.chart())?)),
         Err(ChartRefusal::Fault(fault)) => Ok(Saying::Faulty(fault_line(alloc, &fault)?)),
         Err(ChartRefusal::NoMemory) => Err(NoMemory),
-    }
-}
-
-fn read_legal_chart(alloc: Global, text: &[u8]) -> Result<LegalChart, ChartRefusal>
-    ensures chart { IfOk result (λ c. legal_chart_of text.now ≡ Ok c) }
-    ensures fault { (f : ChartFault) → result ≡ Err (ChartRefusal.Fault f) → legal_chart_of text.now ≡ Err f }
-{
-    match read_chart(alloc, text) {
-        Ok(chart) => validate(alloc, chart),
-        Err(refusal) => Err(refusal),
     }
 }
 

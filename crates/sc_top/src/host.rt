@@ -1,24 +1,30 @@
-ghost use Rattle.std.specs.Prelude.{◌≡◌, ◌+◌, ◌^◌, ◌<◌, [], Some, option_map, is_some, find, unwrap_or, slice_get, IfSome, IfOk, OnOk, length};
+ghost use Rattle.std.specs.Prelude.{◌≡◌, ◌+◌, ◌^◌, ◌<◌, [], false, None, Ok, Some, MatchOption, option_map, is_some, find, slice_get, IfSome, IfOk, OnOk, length};
 ghost use Rattle.std.specs.Option.{option_copied};
-ghost use Rattle.sc_flat.specs.Host.{empty_host, has_chart, chart_place, chart_named, bare_chart, session_place, session_named, not_read, fresh_session, has_slash, posted_event, waiting_cue, cue_of, name_of, queue_left, queue_of_phase, ready};
+ghost use Rattle.sc_top.specs.Host.{empty_host, has_chart, chart_place, chart_named, session_place, session_named, fresh_session, has_slash, posted_event, waiting_cue, cue_of, name_of, queue_left, queue_of_phase, ready};
 ghost use Rattle.sc_law.specs.Runs.{fresh_state, pairs_data};
-ghost use Rattle.sc_flat.specs.Flat.Turn.{turn};
+ghost use Rattle.sc_law.specs.Fitting.{Fits};
+ghost use Rattle.sc_law.specs.LegalCharts.{legal_chart_of};
+ghost use Rattle.sc_law.specs.Legality.{legal_fault};
+ghost use Rattle.sc_law.specs.Turned.{IsTurnOf};
 
-use crate::flat::read_flat_chart;
+use crate::charts::read_legal_chart;
 use sc_base::{Bytes, NoMemory, Plain, Queue, Sequence, SmallBytes, Word};
-use sc_flat::{Tree, TurnResult, turn};
+use sc_law::{Engine, Turned};
+use sc_turn::{Compiled, Plan};
 use sc_types::{
-    Chart, ChartFault, ChartImage, Command, Cue, CueName, Data, Delivery, EVENT_NAME_LIMIT, Event,
-    HostImage, Kind, LogLine, NAME_LIMIT, Node, PairList, Phase, Refusal, Reply, SessionImage,
-    SessionState, Tag,
+    ChartImage, ChartRefusal, Command, Cue, CueName, Data, Delivery, EVENT_NAME_LIMIT, Event,
+    HostImage, Kind, LogLine, NAME_LIMIT, PairList, Phase, Refusal, Reply, SessionImage,
+    SessionState,
 };
+use sc_valid::LegalChart;
 use std::alloc::Global;
+use std::sync::Arc;
 
-/// The host: its plain data, and the tree of each installed chart at that chart's place.
-#[derive(Debug, Drop)]
+/// The host: its plain data, and the plan of each installed chart at that chart's place.
+#[derive(Drop)]
 pub struct Host {
     pub image: HostImage,
-    pub trees: Sequence<Tree>,
+    pub plans: Sequence<Plan>,
 }
 
 /// What a command was answered.
@@ -44,8 +50,8 @@ impl Answered {
 }
 
 impl Host {
-    ghost use Rattle.sc_flat.specs.Host.{install, start, post, step, answer};
-    ghost use Rattle.sc_top.specs.Held.{IsHeld, DoesAnswer, Counts};
+    ghost use Rattle.sc_top.specs.Host.{answer, install, install_read, post, start, step};
+    ghost use Rattle.sc_top.specs.Held.{Counts, DoesAnswer, FitsChart, IsHeld};
 
     pub fn new(alloc: Global) -> Host
         ensures image { result.image ≡ empty_host }
@@ -61,7 +67,7 @@ impl Host {
                 sessions: Sequence::new(alloc),
                 timers: Sequence::new(alloc),
             },
-            trees: Sequence::new(alloc),
+            plans: Sequence::new(alloc),
         }
     }
 
@@ -69,6 +75,7 @@ impl Host {
         requires held { IsHeld self.old }
         requires room { self.old.image.commands + 1 < 2 ^ 64 }
         ensures answer { IfOk result (DoesAnswer (install self.old.image name.now text.now) self.new) }
+        ensures held { OnOk result (IsHeld self.new) }
         ensures counts { OnOk result (Counts self.old.image self.new.image) }
     {
         if name.bytes().len() > NAME_LIMIT {
@@ -77,10 +84,30 @@ impl Host {
         if has_chart(&self.image, name.bytes()) {
             return Ok(refused(alloc, Refusal::NameTaken));
         }
-        let Some(chart) = read_flat_chart(alloc, text.slice())? else {
-            return Ok(refused(alloc, Refusal::BadChart(not_read(alloc))));
-        };
-        self.trees.push(Tree::new(alloc, chart)?)?;
+        match read_legal_chart(alloc, text.slice()) {
+            Ok(chart) => self.add_chart(alloc, name, text, chart),
+            Err(ChartRefusal::Fault(fault)) => Ok(refused(alloc, Refusal::BadChart(fault))),
+            Err(ChartRefusal::NoMemory) => Err(NoMemory),
+        }
+    }
+
+    /// Installs the legal chart that the text spells.
+    fn add_chart(
+        &mut self,
+        alloc: Global,
+        name: &Word,
+        text: &Bytes,
+        chart: LegalChart,
+    ) -> Result<Answered, NoMemory>
+        requires held { IsHeld self.old }
+        requires room { self.old.image.commands + 1 < 2 ^ 64 }
+        requires new { has_chart self.old.image name.now ≡ false }
+        requires chart { legal_chart_of text.now ≡ Ok chart }
+        ensures answer { IfOk result (DoesAnswer (install_read self.old.image name.now text.now (Ok chart)) self.new) }
+        ensures held { OnOk result (IsHeld self.new) }
+        ensures counts { OnOk result (Counts self.old.image self.new.image) }
+    {
+        self.plans.push(plan_of(alloc, chart)?)?;
         self.image.charts.push(ChartImage {
             name: name.copy()?,
             text: text.copy()?,
@@ -93,6 +120,7 @@ impl Host {
         requires held { IsHeld self.old }
         requires room { self.old.image.commands + 1 < 2 ^ 64 }
         ensures answer { IfOk result (DoesAnswer (start self.old.image session.now chart.now) self.new) }
+        ensures held { OnOk result (IsHeld self.new) }
         ensures counts { OnOk result (Counts self.old.image self.new.image) }
     {
         if session.bytes().len() > NAME_LIMIT {
@@ -128,6 +156,7 @@ impl Host {
         requires room { self.old.image.commands + 1 < 2 ^ 64 }
         requires numbers { self.old.image.events + 1 < 2 ^ 128 }
         ensures answer { IfOk result (DoesAnswer (post self.old.image session.now name.now pairs.now) self.new) }
+        ensures held { OnOk result (IsHeld self.new) }
         ensures counts { OnOk result (Counts self.old.image self.new.image) }
     {
         if name.bytes().len() > EVENT_NAME_LIMIT {
@@ -152,6 +181,7 @@ impl Host {
         requires held { IsHeld self.old }
         requires room { self.old.image.commands + 1 < 2 ^ 64 }
         ensures answer { IfOk result (DoesAnswer (step self.old.image session.now) self.new) }
+        ensures held { OnOk result (IsHeld self.new) }
         ensures counts { OnOk result (Counts self.old.image self.new.image) }
     {
         let Some((place, found)) = session_named(&self.image, session.bytes()) else {
@@ -164,45 +194,47 @@ impl Host {
             return Ok(refused(alloc, Refusal::Idle));
         };
         let turned = self.turn_of(alloc, found, &cue)?;
+        let (after, _effects, logs) = turned.into_parts();
         let stepping = self.image.sessions.item_mut(place);
-        finish_step(alloc, stepping, &cue, turned.after);
+        finish_step(alloc, stepping, &cue, after);
         self.image.commands += 1;
-        Ok(Answered::new(alloc, Reply::Stepped(name_of(&cue)), turned.logs))
+        Ok(Answered::new(alloc, Reply::Stepped(name_of(&cue)), logs))
     }
 
     /// The turn of a session with this cue.
-    fn turn_of(
-        &self,
-        alloc: Global,
-        session: &SessionImage,
-        cue: &Cue,
-    ) -> Result<TurnResult, NoMemory>
-        requires { IsHeld self.now }
-        ensures { IfOk result (λ t.
-            t ≡ turn (chart_named self.now.image session.now.state.chart) session.now.state cue.now) }
+    fn turn_of(&self, alloc: Global, session: &SessionImage, cue: &Cue) -> Result<Turned, NoMemory>
+        requires held { IsHeld self.now }
+        requires fits { FitsChart self.now.image session.now }
+        requires cue { cue_of session.now ≡ Some cue.now }
+        ensures turn { IfOk result
+            (IsTurnOf (chart_named self.now.image session.now.state.chart) session.now.state cue.now) }
+        ensures fits { IfOk result (λ t. t.after.phase ≡ Phase.Running
+            → Fits (chart_named self.now.image session.now.state.chart) t.after) }
     {
-        match self.tree_named(session.state.chart.bytes()) {
-            Some(tree) => turn(alloc, tree, &session.state, cue),
-            None => turn(alloc, &bare_tree(alloc)?, &session.state, cue),
+        match self.plan_named(session.state.chart.bytes()) {
+            Some(plan) => Compiled.turn(alloc, plan, &session.state, cue),
+            None => unreachable!(),
         }
     }
 
-    /// The tree of an installed chart.
-    pub(crate) fn tree_named(&self, name: &[u8]) -> Option<&Tree>
+    /// The plan of an installed chart.
+    pub(crate) fn plan_named(&self, name: &[u8]) -> Option<&Plan>
         requires { IsHeld self.now }
-        ensures { unwrap_or (option_copied result) bare_chart ≡ chart_named self.now.image name.now }
+        ensures { MatchOption result (has_chart self.now.image name.now ≡ false)
+            (λ plan. (plan.now ≡ chart_named self.now.image name.now) × (legal_fault plan.now ≡ None)) }
     {
         let place = chart_place(&self.image, name)?;
-        self.trees.get(place)
+        self.plans.get(place)
     }
 
     /// Does a command, as the host machine answers it. After `NoMemory` the host is to be given up.
-    #[tactic(auto, unfolding(sc_flat::specs::Host::answer))]
+    #[tactic(auto, unfolding(crate::specs::Host::answer))]
     pub fn answer(&mut self, alloc: Global, command: &Command) -> Result<Answered, NoMemory>
         requires held { IsHeld self.old }
         requires room { self.old.image.commands + 1 < 2 ^ 64 }
         requires numbers { self.old.image.events + 1 < 2 ^ 128 }
         ensures answer { IfOk result (DoesAnswer (answer self.old.image command.now) self.new) }
+        ensures held { OnOk result (IsHeld self.new) }
         ensures counts { OnOk result (Counts self.old.image self.new.image) }
     {
         match command {
@@ -238,15 +270,11 @@ fn chart_place(image: &HostImage, name: &[u8]) -> Option<usize>
         .position(|c| c.name.bytes() == name)
 }
 
-fn bare_tree(alloc: Global) -> Result<Tree, NoMemory>
-    ensures { IfOk result (λ t. t ≡ bare_chart) }
+fn plan_of(alloc: Global, chart: LegalChart) -> Result<Plan, NoMemory>
+    ensures { IfOk result (λ plan. plan ≡ chart) }
 {
-    let root = Node {
-        tag: Tag::Scxml,
-        members: Sequence::new(alloc),
-        kids: Sequence::new(alloc),
-    };
-    Tree::new(alloc, Chart { root })
+    let chart = Arc::new(alloc, chart.into_chart())?;
+    Compiled.plan(alloc, &chart)
 }
 
 fn has_cue(session: &SessionImage) -> bool
@@ -354,16 +382,6 @@ fn session_named<'a>(image: &'a HostImage, name: &[u8]) -> Option<(usize, &'a Se
     let place = session_place(image, name)?;
     let session = image.sessions.get(place)?;
     Some((place, session))
-}
-
-fn not_read(alloc: Global) -> ChartFault
-    ensures { result ≡ not_read }
-{
-    ChartFault {
-        number: 1,
-        path: Sequence::new(alloc),
-        member: Bytes::new(alloc),
-    }
 }
 
 fn has_slash(name: &[u8]) -> bool

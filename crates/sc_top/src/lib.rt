@@ -2,8 +2,8 @@
 //! one.
 #![tactic(auto)]
 
+mod charts;
 mod check;
-mod flat;
 mod host;
 mod program;
 mod report;

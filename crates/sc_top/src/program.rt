@@ -2,7 +2,7 @@ ghost use Rattle.std.specs.Prelude.{◌≡◌, ◌≢◌, ◌+◌, ◌↔◌, �
 ghost use Rattle.std.specs.Io.KnownBytes.{Appends, Keeps};
 ghost use Rattle.sc_types.specs.declared.command.Command.{Command};
 ghost use Rattle.sc_types.specs.declared.limits.TheConstants.{CHART_TEXT_LIMIT};
-ghost use Rattle.sc_flat.specs.Report.{report};
+ghost use Rattle.sc_top.specs.Report.{report};
 ghost use Rattle.sc_dev.specs.Causes.{Rose};
 ghost use Rattle.sc_dev.specs.Transfer.{AppendsPart, ConsumesUpTo};
 ghost use Rattle.sc_top.specs.FirstForm.{IsFirstForm};

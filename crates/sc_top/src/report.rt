@@ -1,6 +1,6 @@
 ghost use Rattle.std.specs.Prelude.{◌≡◌, ◌++◌, OnOk, IfOk, decimal, length, codes};
-ghost use Rattle.sc_flat.specs.Lines.{line};
-ghost use Rattle.sc_flat.specs.Report.{report};
+ghost use Rattle.sc_top.specs.Lines.{line};
+ghost use Rattle.sc_top.specs.Report.{report};
 ghost use Rattle.sc_top.specs.Held.{IsHeld};
 
 mod entries;

@@ -1,6 +1,6 @@
 ghost use Rattle.std.specs.Prelude.{◌≡◌, ◌+◌, ◌^◌, ◌<◌, ◌≤◌, [], Some, List, IfOk, OnOk, length};
 ghost use Rattle.sc_types.specs.declared.command.Command.{Command};
-ghost use Rattle.sc_flat.specs.Host.{empty_host, ready};
+ghost use Rattle.sc_top.specs.Host.{empty_host, ready};
 ghost use Rattle.sc_top.specs.Held.{IsHeld};
 ghost use Rattle.sc_top.specs.Running.{HasRun};
 
@@ -9,7 +9,7 @@ use sc_types::{Command, Entry, NoMemory, Plain, Sequence, Who};
 use std::alloc::Global;
 
 /// A run under way: the host, the history so far, and how many steps are left.
-#[derive(Debug, Drop)]
+#[derive(Drop)]
 pub struct Run {
     pub host: Host,
     pub history: Sequence<Entry>,

@@ -5,7 +5,7 @@ ghost use Rattle.sc_types.specs.declared.command.Command.{Command};
 ghost use Rattle.sc_top.specs.FirstForm.{lacks, IsShortName, IsChartText, post_of, IsFirstForm};
 ghost use Rattle.sc_top.specs.ScriptLines.{IsCut, IsChartLine, IsStartLine, IsPostLine, IsPosts};
 
-use crate::flat::read_flat_chart;
+use crate::charts::is_alone_chart;
 use sc_types::{Bytes, Command, NAME_LIMIT, NoMemory, Plain, Sequence, Unfit, Word, is_plain_name};
 use std::alloc::Global;
 
@@ -97,10 +97,7 @@ fn is_chart_text(alloc: Global, text: &[u8]) -> Result<bool, NoMemory>
     if text[0] == b' ' || text[text.len() - 1] == b' ' || !lacks(text, b'\n') {
         return Ok(false);
     }
-    match read_flat_chart(alloc, text)? {
-        Some(_) => Ok(true),
-        None => Ok(false),
-    }
+    is_alone_chart(alloc, text)
 }
 
 fn read_start_line(alloc: Global, name: &Word, text: &[u8]) -> Result<Word, ScriptRefusal>

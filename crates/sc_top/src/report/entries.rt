@@ -1,7 +1,7 @@
 ghost use Rattle.std.specs.Prelude.{◌≡◌, ◌+◌, ◌++◌, OnOk, decimal, codes};
 ghost use Rattle.std.specs.List.{flat_map};
-ghost use Rattle.sc_flat.specs.Lines.{line, command_text};
-ghost use Rattle.sc_flat.specs.Report.{who_text, reply_text, log_text, delivery_text, entry_text, entries_text};
+ghost use Rattle.sc_top.specs.Lines.{line, command_text};
+ghost use Rattle.sc_top.specs.Report.{who_text, reply_text, log_text, delivery_text, entry_text, entries_text};
 
 use crate::report::lines::put_command;
 use crate::report::replies::{put_reply, put_who};

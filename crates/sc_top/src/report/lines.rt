@@ -1,6 +1,6 @@
 ghost use Rattle.std.specs.Prelude.{◌≡◌, ◌++◌, [], ◌∷◌, OnOk, decimal};
 ghost use Rattle.std.specs.List.{flat_map};
-ghost use Rattle.sc_flat.specs.Lines.{line, pair_text, command_text};
+ghost use Rattle.sc_top.specs.Lines.{line, pair_text, command_text};
 
 use sc_base::{NoMemory, PlainName, TextWriter};
 use sc_expr::put_value;

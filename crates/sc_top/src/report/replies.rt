@@ -1,5 +1,5 @@
 ghost use Rattle.std.specs.Prelude.{◌≡◌, ◌++◌, OnOk};
-ghost use Rattle.sc_flat.specs.Report.{who_text, path_rest, path_text, fault_text, how_text, refusal_text, cue_text, reply_text};
+ghost use Rattle.sc_top.specs.Report.{who_text, path_rest, path_text, fault_text, how_text, refusal_text, cue_text, reply_text};
 
 use sc_base::{NoMemory, TextWriter};
 use sc_types::{ChartFault, CueName, How, Refusal, Reply, Who};

@@ -1,10 +1,8 @@
-ghost use Rattle.std.specs.Prelude.{◌≡◌, ◌++◌, OnOk, unwrap_or, option_and_then, codes};
+ghost use Rattle.std.specs.Prelude.{◌≡◌, ◌++◌, IsTrue, OnOk, codes};
 ghost use Rattle.std.specs.List.{flat_map};
-ghost use Rattle.std.specs.Option.{option_copied};
-ghost use Rattle.sc_flat.specs.Host.{bare_chart, chart_named};
-ghost use Rattle.sc_flat.specs.Lines.{line};
-ghost use Rattle.sc_flat.specs.Report.{state_text, datum_text, live_text, phase_text, session_text};
-ghost use Rattle.sc_law.specs.Tree.{node_of, id_of};
+ghost use Rattle.sc_top.specs.Host.{chart_named, has_chart};
+ghost use Rattle.sc_top.specs.Lines.{line};
+ghost use Rattle.sc_top.specs.Report.{state_text, datum_text, live_text, phase_text, session_text};
 ghost use Rattle.sc_top.specs.Held.{IsHeld};
 
 use crate::host::Host;
@@ -12,16 +10,15 @@ use crate::report::lines::put_counted;
 use crate::report::replies::put_how;
 use sc_base::{NoMemory, PlainName, TextWriter};
 use sc_expr::put_value;
-use sc_flat::Tree;
+use sc_turn::Plan;
 use sc_types::{Phase, SessionImage, SessionState, Value};
 
-/// A state of this tree by its id, or by its number where it has none.
-fn put_state(out: &mut TextWriter, tree: Option<&Tree>, state: u32) -> Result<(), NoMemory>
-    ensures { OnOk result (out.new
-        ≡ out.old ++ state_text (unwrap_or (option_copied tree.entry) bare_chart) state) }
+/// A state of this chart by its id, or by its number where it has none.
+fn put_state(out: &mut TextWriter, plan: &Plan, state: u32) -> Result<(), NoMemory>
+    ensures { OnOk result (out.new ≡ out.old ++ state_text plan.now state) }
 {
     out.text(" ")?;
-    match id_in(tree, state) {
+    match plan.id_of(state) {
         Some(id) => out.bytes(id),
         None => {
             out.text("#")?;
@@ -30,19 +27,11 @@ fn put_state(out: &mut TextWriter, tree: Option<&Tree>, state: u32) -> Result<()
     }
 }
 
-fn id_in<'t>(tree: Option<&'t Tree>, state: u32) -> Option<&'t [u8]>
-    ensures { option_copied result
-        ≡ option_and_then id_of (node_of (unwrap_or (option_copied tree.entry) bare_chart) state) }
-{
-    tree?.id_of(state)
-}
-
-fn put_ids(out: &mut TextWriter, tree: Option<&Tree>, states: &[u32]) -> Result<(), NoMemory>
-    ensures { OnOk result (out.new
-        ≡ out.old ++ flat_map (state_text (unwrap_or (option_copied tree.entry) bare_chart)) states.now) }
+fn put_ids(out: &mut TextWriter, plan: &Plan, states: &[u32]) -> Result<(), NoMemory>
+    ensures { OnOk result (out.new ≡ out.old ++ flat_map (state_text plan.now) states.now) }
 {
     for state in states {
-        put_state(out, tree, *state)?;
+        put_state(out, plan, *state)?;
     }
     Ok(())
 }
@@ -70,17 +59,21 @@ fn put_data(out: &mut TextWriter, values: &[(PlainName, Option<Value>)]) -> Resu
 
 /// The active states of a session.
 fn put_states(out: &mut TextWriter, host: &Host, state: &SessionState) -> Result<(), NoMemory>
-    requires { IsHeld host.now }
+    requires held { IsHeld host.now }
+    requires chart { IsTrue (has_chart host.now.image state.now.chart) }
     ensures { OnOk result (out.new
         ≡ out.old
         ++ flat_map (state_text (chart_named host.now.image state.now.chart)) state.now.configuration) }
 {
-    let tree = host.tree_named(state.chart.bytes());
-    put_ids(out, tree, state.configuration.slice())
+    match host.plan_named(state.chart.bytes()) {
+        Some(plan) => put_ids(out, plan, state.configuration.slice()),
+        None => unreachable!(),
+    }
 }
 
 fn put_active(out: &mut TextWriter, host: &Host, state: &SessionState) -> Result<(), NoMemory>
-    requires { IsHeld host.now }
+    requires held { IsHeld host.now }
+    requires chart { IsTrue (has_chart host.now.image state.now.chart) }
     ensures { OnOk result (out.new
         ≡ out.old
         ++ line (codes "live in"
@@ -92,7 +85,8 @@ fn put_active(out: &mut TextWriter, host: &Host, state: &SessionState) -> Result
 }
 
 fn put_live(out: &mut TextWriter, host: &Host, session: &SessionImage) -> Result<(), NoMemory>
-    requires { IsHeld host.now }
+    requires held { IsHeld host.now }
+    requires chart { IsTrue (has_chart host.now.image session.now.state.chart) }
     ensures { OnOk result (out.new ≡ out.old ++ live_text host.now.image session.now) }
 {
     put_active(out, host, &session.state)?;
@@ -101,7 +95,8 @@ fn put_live(out: &mut TextWriter, host: &Host, session: &SessionImage) -> Result
 }
 
 fn put_phase(out: &mut TextWriter, host: &Host, session: &SessionImage) -> Result<(), NoMemory>
-    requires { IsHeld host.now }
+    requires held { IsHeld host.now }
+    requires chart { IsTrue (has_chart host.now.image session.now.state.chart) }
     ensures { OnOk result (out.new
         ≡ out.old ++ phase_text host.now.image session.now session.now.state.phase) }
 {
@@ -116,7 +111,8 @@ fn put_phase(out: &mut TextWriter, host: &Host, session: &SessionImage) -> Resul
 }
 
 fn put_session(out: &mut TextWriter, host: &Host, session: &SessionImage) -> Result<(), NoMemory>
-    requires { IsHeld host.now }
+    requires held { IsHeld host.now }
+    requires chart { IsTrue (has_chart host.now.image session.now.state.chart) }
     ensures { OnOk result (out.new ≡ out.old ++ session_text host.now.image session.now) }
 {
     out.bytes(session.state.session.bytes())?;

@@ -1,8 +1,8 @@
 use Rattle.std.proofs.Common.{List, ap, ◌∙◌, codes}
 use Rattle.sc_types.specs.declared.history.Entry.{Entry}
 use Rattle.sc_types.specs.declared.host.HostImage.{HostImage}
-use Rattle.sc_flat.specs.Report.{report}
-use Rattle.sc_flat.proofs.Promise.{history_of_run}
+use Rattle.sc_top.specs.Report.{report}
+use Rattle.sc_top.proofs.Promise.{history_of_run}
 use Rattle.sc_top.proofs.ScriptLemmas.{first_form_no_step, first_form_few}
 use Rattle.sc_top.proofs.program.report_run.Goals as goal
 

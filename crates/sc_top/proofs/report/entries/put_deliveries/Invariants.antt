@@ -1,6 +1,6 @@
 use Rattle.std.proofs.Common.{◌≡◌, ◌++◌, drop}
 use Rattle.std.specs.List.{flat_map}
-use Rattle.sc_flat.specs.Report.{delivery_text}
+use Rattle.sc_top.specs.Report.{delivery_text}
 use Rattle.sc_top.proofs.report.entries.put_deliveries.Given as goal
 
 abbrev pub invariant-loop-delivery : goal.invariant-loop-delivery

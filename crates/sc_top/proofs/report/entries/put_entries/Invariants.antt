@@ -1,5 +1,5 @@
 use Rattle.std.proofs.Common.{◌≡◌, ◌+◌, ◌++◌, drop}
-use Rattle.sc_flat.specs.Report.{entries_text}
+use Rattle.sc_top.specs.Report.{entries_text}
 use Rattle.sc_top.proofs.report.entries.put_entries.Given as goal
 
 abbrev pub invariant-loop-place : goal.invariant-loop-place

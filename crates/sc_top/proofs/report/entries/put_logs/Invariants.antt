@@ -1,6 +1,6 @@
 use Rattle.std.proofs.Common.{◌≡◌, ◌++◌, drop}
 use Rattle.std.specs.List.{flat_map}
-use Rattle.sc_flat.specs.Report.{log_text}
+use Rattle.sc_top.specs.Report.{log_text}
 use Rattle.sc_top.proofs.report.entries.put_logs.Given as goal
 
 abbrev pub invariant-loop-log : goal.invariant-loop-log

@@ -1,6 +1,6 @@
 use Rattle.std.proofs.Common.{◌≡◌, ◌++◌, drop}
 use Rattle.std.specs.List.{flat_map}
-use Rattle.sc_flat.specs.Lines.{pair_text}
+use Rattle.sc_top.specs.Lines.{pair_text}
 use Rattle.sc_top.proofs.report.lines.put_pairs.Given as goal
 
 abbrev pub invariant-loop-pair : goal.invariant-loop-pair

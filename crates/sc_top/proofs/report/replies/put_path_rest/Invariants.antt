@@ -1,5 +1,5 @@
 use Rattle.std.proofs.Common.{◌≡◌, ◌++◌, drop}
-use Rattle.sc_flat.specs.Report.{path_rest}
+use Rattle.sc_top.specs.Report.{path_rest}
 use Rattle.sc_top.proofs.report.replies.put_path_rest.Given as goal
 
 abbrev pub invariant-loop-place : goal.invariant-loop-place

@@ -1,5 +1,5 @@
 use Rattle.std.proofs.Common.{◌≡◌, ◌++◌, OnOk, codes, append_assoc, ap, sym, subst, ◌∙◌}
-use Rattle.sc_flat.specs.Report.{fault_text, refusal_text}
+use Rattle.sc_top.specs.Report.{fault_text, refusal_text}
 use Rattle.sc_top.proofs.report.replies.put_refusal.Goals as goal
 
 pub returns-in_ok-text-in-BadChart : goal.returns-in_ok-text-in-BadChart

@@ -1,6 +1,6 @@
 use Rattle.std.proofs.Common.{◌≡◌, ◌++◌, drop}
 use Rattle.std.specs.List.{flat_map}
-use Rattle.sc_flat.specs.Report.{session_text}
+use Rattle.sc_top.specs.Report.{session_text}
 use Rattle.sc_top.proofs.report.sessions.put_sessions.Given as goal
 
 abbrev pub invariant-loop-session : goal.invariant-loop-session

@@ -1,5 +1,5 @@
 use Rattle.std.proofs.Common.{◌≡◌, suc, ◌-◌, Some, refl, arith, rules, []}
-use Rattle.sc_flat.specs.Host.{ready}
+use Rattle.sc_top.specs.Host.{ready}
 use Rattle.sc_top.proofs.RunLemmas.{goes_further, goes_by_step}
 use Rattle.sc_top.proofs.run.Run.step_all.Goals as goal
 

@@ -1,9 +1,0 @@
-pub mod ChangeLemmas
-pub mod FoundLemmas
-pub mod GivenLemmas
-pub mod HistoryLemmas
-pub mod Once
-pub mod PendingLemmas
-pub mod Promise
-pub mod RoundLemmas
-pub mod TurnLemmas

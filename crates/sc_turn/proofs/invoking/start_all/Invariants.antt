@@ -1,0 +1,18 @@
+use Rattle.std.proofs.Common.{◌≡◌, ◌-◌}
+use Rattle.sc_base.specs.Folds.{each}
+use Rattle.sc_law.specs.Invokes.{start_of}
+use Rattle.sc_exec.specs.Runs.{KeepsRows, running_of}
+use Rattle.sc_select.specs.Runs.{IsRunOf}
+use Rattle.sc_sets.proofs.Members.{from_on}
+use Rattle.sc_turn.proofs.invoking.start_all.Given as goal
+
+abbrev pub invariant-loop-s : goal.invariant-loop-s
+invariant-loop-s l = record {
+  rest : each (start_of l.t) (from_on l.from l.run.todo.members) (running_of l.run)
+      ≡ each (start_of l.t) l.fn.run.todo.members (running_of l.fn.run);
+  kept : KeepsRows l.fn.run l.run;
+  run : IsRunOf l.t l.run;
+}
+
+abbrev pub decreases-loop-s : goal.decreases-loop-s
+decreases-loop-s l = l.run.todo.width - l.from

@@ -1,0 +1,131 @@
+ghost use Rattle.std.specs.Prelude.{◌≡◌, None, IfOk, option_and_then};
+ghost use Rattle.std.specs.Option.{option_copied};
+ghost use Rattle.sc_law.specs.Tree.{id_of, node_of};
+ghost use Rattle.std.specs.Arc.{arc_value};
+ghost use Rattle.sc_law.specs.Legality.{legal_fault};
+ghost use Rattle.sc_law.specs.Runs.{ids};
+ghost use Rattle.sc_law.specs.Turn.{round_limit};
+ghost use Rattle.sc_turn.specs.States.{chart_name};
+
+use crate::ids::chart_ids;
+use crate::limit::round_limit;
+use sc_base::{Bytes, NoMemory};
+use sc_eval::Ids;
+use sc_tables::{Tables, build};
+use sc_types::{Attribute, Chart};
+use std::alloc::Global;
+use std::marker::Model;
+use std::sync::Arc;
+
+/// What the turns of a chart need, made once: its tables, the ids that `In` knows, the limit on the rounds of a turn,
+/// and its name.
+#[derive(Drop)]
+pub struct Plan {
+    tables: Tables,
+    state_ids: Arc<Ids>,
+    limit: u64,
+    name: Bytes,
+}
+
+impl Model for Plan {
+    ghost use Rattle.std.specs.Prelude.{◌≡◌};
+    ghost use Rattle.std.specs.Arc.{arc_value};
+    ghost use Rattle.sc_types.specs.declared.chart.Chart.{Chart};
+    ghost use Rattle.sc_types.specs.contracts.chart.Chart as chart_type;
+    ghost use Rattle.std.specs.Coded.{codes};
+    ghost use Rattle.sc_law.specs.Runs.{ids};
+    ghost use Rattle.sc_law.specs.Turn.{round_limit};
+    ghost use Rattle.sc_turn.specs.States.{chart_name};
+
+    ghost Value = { Chart };
+
+    ghost coded = { Prim.hlevel (codes, chart_type.the_row.coded) };
+
+    ghost view = { λ p. p.tables };
+
+    ghost invariant = { λ p. (arc_value p.state_ids ≡ ids p.tables) × (p.limit ≡ round_limit p.tables)
+        × (p.name ≡ chart_name p.tables) };
+}
+
+impl Plan {
+    /// The plan of a legal chart.
+    pub(crate) fn new(alloc: Global, chart: &Arc<Chart>) -> Result<Plan, NoMemory>
+        requires { legal_fault (arc_value chart.now) ≡ None }
+        ensures { IfOk result (λ p. p ≡ arc_value chart.now) }
+    {
+        let tables = build(alloc, chart)?;
+        let state_ids = shared_ids(alloc, &tables)?;
+        let limit = round_limit(chart)?;
+        let name = chart_name(alloc, chart)?;
+        Ok(joined(tables, state_ids, limit, name))
+    }
+
+    pub(crate) fn tables(&self) -> &Tables
+        ensures { result.now ≡ self.now }
+    {
+        &self.tables
+    }
+
+    /// The id that the chart gives a state; none where it gives none, and of a number that is no state's.
+    pub fn id_of(&self, state: u32) -> Option<&[u8]>
+        ensures { option_copied result ≡ option_and_then id_of (node_of self.now state) }
+    {
+        let _chart = self.tables.chart();
+        if state < self.tables.count() {
+            self.tables.element(state).text(Attribute::Id)
+        } else {
+            self.tables.element(self.tables.count()).text(Attribute::Id)
+        }
+    }
+
+    pub(crate) fn ids(&self) -> &Arc<Ids>
+        ensures { arc_value result.now ≡ ids self.now }
+    {
+        &self.state_ids
+    }
+
+    /// How many rounds a turn may have.
+    pub(crate) fn limit(&self) -> u64
+        ensures { result ≡ round_limit self.now }
+    {
+        self.limit
+    }
+
+    /// The chart's name, which is empty where it has none.
+    pub(crate) fn name(&self) -> &Bytes
+        ensures { result.now ≡ chart_name self.now }
+    {
+        &self.name
+    }
+}
+
+fn chart_name(alloc: Global, chart: &Chart) -> Result<Bytes, NoMemory>
+    ensures { IfOk result (λ name. name ≡ chart_name chart.now) }
+{
+    match chart.root.text(Attribute::Name) {
+        Some(name) => Bytes::from_slice(alloc, name),
+        None => Ok(Bytes::new(alloc)),
+    }
+}
+
+/// The ids of the chart, for all its runs.
+fn shared_ids(alloc: Global, t: &Tables) -> Result<Arc<Ids>, NoMemory>
+    ensures { IfOk result (λ rows. arc_value rows ≡ ids t.now) }
+{
+    let rows = chart_ids(alloc, t)?;
+    Ok(Arc::new(alloc, rows)?)
+}
+
+fn joined(tables: Tables, state_ids: Arc<Ids>, limit: u64, name: Bytes) -> Plan
+    requires ids { arc_value state_ids ≡ ids tables }
+    requires limit { limit ≡ round_limit tables }
+    requires name { name ≡ chart_name tables }
+    ensures { result ≡ tables }
+{
+    Plan {
+        tables,
+        state_ids,
+        limit,
+        name,
+    }
+}
