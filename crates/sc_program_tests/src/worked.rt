@@ -56,10 +56,7 @@ fn a_final_under_the_root_ends_the_session(rt: HostRuntime) -> Result<(), Fail> 
         &Worked {
             name: "f",
             chart: r#"{"tag":"scxml","kids":[{"tag":"final","id":"f"}]}"#,
-            script: concat!(
-                "start s f\n",
-                "post s go\n",
-            ),
+            script: concat!("start s f\n", "post s go\n",),
             report: concat!(
                 "2 c0 start s f\n",
                 "= started\n",
@@ -84,10 +81,7 @@ fn of_two_regions_that_leave_the_first_goes(rt: HostRuntime) -> Result<(), Fail>
         &Worked {
             name: "p",
             chart: r#"{"tag":"scxml","kids":[{"tag":"parallel","id":"p","kids":[{"tag":"transition","event":"f","target":"x"},{"tag":"state","id":"r1","kids":[{"tag":"state","id":"a","kids":[{"tag":"transition","event":"e","target":"x"}]}]},{"tag":"state","id":"r2","kids":[{"tag":"state","id":"b","kids":[{"tag":"transition","event":"e f","target":"c"}]},{"tag":"state","id":"c"}]}]},{"tag":"state","id":"x"}]}"#,
-            script: concat!(
-                "start s p\n",
-                "post s e\n",
-            ),
+            script: concat!("start s p\n", "post s e\n",),
             report: concat!(
                 "2 c0 start s p\n",
                 "= started\n",
@@ -115,10 +109,7 @@ fn a_deeper_source_gives_way_to_an_earlier_region(rt: HostRuntime) -> Result<(),
         &Worked {
             name: "p",
             chart: r#"{"tag":"scxml","kids":[{"tag":"parallel","id":"p","kids":[{"tag":"transition","event":"f","target":"x"},{"tag":"state","id":"r1","kids":[{"tag":"state","id":"a","kids":[{"tag":"transition","event":"e","target":"x"}]}]},{"tag":"state","id":"r2","kids":[{"tag":"state","id":"b","kids":[{"tag":"transition","event":"e f","target":"c"}]},{"tag":"state","id":"c"}]}]},{"tag":"state","id":"x"}]}"#,
-            script: concat!(
-                "start s p\n",
-                "post s f\n",
-            ),
+            script: concat!("start s p\n", "post s f\n",),
             report: concat!(
                 "2 c0 start s p\n",
                 "= started\n",
@@ -146,10 +137,7 @@ fn a_history_without_a_record_runs_its_default(rt: HostRuntime) -> Result<(), Fa
         &Worked {
             name: "h",
             chart: r#"{"tag":"scxml","kids":[{"tag":"state","id":"o","kids":[{"tag":"transition","event":"in","target":"h"},{"tag":"transition","event":"go","target":"a"}]},{"tag":"state","id":"s","kids":[{"tag":"history","id":"h","kids":[{"tag":"transition","target":"b","kids":[{"tag":"log","expr":"'default'"}]}]},{"tag":"state","id":"a","kids":[{"tag":"transition","event":"e","target":"h"}]},{"tag":"state","id":"b"}]}]}"#,
-            script: concat!(
-                "start s h\n",
-                "post s in\n",
-            ),
+            script: concat!("start s h\n", "post s in\n",),
             report: concat!(
                 "2 c0 start s h\n",
                 "= started\n",
@@ -178,11 +166,7 @@ fn a_history_recalls_what_was_recorded(rt: HostRuntime) -> Result<(), Fail> {
         &Worked {
             name: "h",
             chart: r#"{"tag":"scxml","kids":[{"tag":"state","id":"o","kids":[{"tag":"transition","event":"in","target":"h"},{"tag":"transition","event":"go","target":"a"}]},{"tag":"state","id":"s","kids":[{"tag":"history","id":"h","kids":[{"tag":"transition","target":"b","kids":[{"tag":"log","expr":"'default'"}]}]},{"tag":"state","id":"a","kids":[{"tag":"transition","event":"e","target":"h"}]},{"tag":"state","id":"b"}]}]}"#,
-            script: concat!(
-                "start s h\n",
-                "post s go\n",
-                "post s e\n",
-            ),
+            script: concat!("start s h\n", "post s go\n", "post s e\n",),
             report: concat!(
                 "2 c0 start s h\n",
                 "= started\n",
@@ -214,12 +198,7 @@ fn a_deep_history_recalls_the_atomic_states(rt: HostRuntime) -> Result<(), Fail>
         &Worked {
             name: "d",
             chart: r#"{"tag":"scxml","kids":[{"tag":"parallel","id":"p","kids":[{"tag":"history","id":"hs","kids":[{"tag":"transition","target":"r1 r2"}]},{"tag":"history","id":"hd","type":"deep","kids":[{"tag":"transition","target":"a1 b1"}]},{"tag":"transition","event":"out","target":"o"},{"tag":"state","id":"r1","kids":[{"tag":"state","id":"a1","kids":[{"tag":"transition","event":"e","target":"a2"}]},{"tag":"state","id":"a2"}]},{"tag":"state","id":"r2","kids":[{"tag":"state","id":"b1"},{"tag":"state","id":"b2"}]}]},{"tag":"state","id":"o","kids":[{"tag":"transition","event":"s","target":"hs"},{"tag":"transition","event":"d","target":"hd"}]}]}"#,
-            script: concat!(
-                "start s d\n",
-                "post s e\n",
-                "post s out\n",
-                "post s d\n",
-            ),
+            script: concat!("start s d\n", "post s e\n", "post s out\n", "post s d\n",),
             report: concat!(
                 "2 c0 start s d\n",
                 "= started\n",
@@ -255,12 +234,7 @@ fn a_shallow_history_recalls_the_children(rt: HostRuntime) -> Result<(), Fail> {
         &Worked {
             name: "d",
             chart: r#"{"tag":"scxml","kids":[{"tag":"parallel","id":"p","kids":[{"tag":"history","id":"hs","kids":[{"tag":"transition","target":"r1 r2"}]},{"tag":"history","id":"hd","type":"deep","kids":[{"tag":"transition","target":"a1 b1"}]},{"tag":"transition","event":"out","target":"o"},{"tag":"state","id":"r1","kids":[{"tag":"state","id":"a1","kids":[{"tag":"transition","event":"e","target":"a2"}]},{"tag":"state","id":"a2"}]},{"tag":"state","id":"r2","kids":[{"tag":"state","id":"b1"},{"tag":"state","id":"b2"}]}]},{"tag":"state","id":"o","kids":[{"tag":"transition","event":"s","target":"hs"},{"tag":"transition","event":"d","target":"hd"}]}]}"#,
-            script: concat!(
-                "start s d\n",
-                "post s e\n",
-                "post s out\n",
-                "post s s\n",
-            ),
+            script: concat!("start s d\n", "post s e\n", "post s out\n", "post s s\n",),
             report: concat!(
                 "2 c0 start s d\n",
                 "= started\n",
@@ -296,11 +270,7 @@ fn an_internal_transition_leaves_its_source_active(rt: HostRuntime) -> Result<()
         &Worked {
             name: "i",
             chart: r#"{"tag":"scxml","kids":[{"tag":"state","id":"s","kids":[{"tag":"onexit","kids":[{"tag":"log","expr":"'x'"}]},{"tag":"transition","event":"i","target":"a","type":"internal"},{"tag":"transition","event":"x","target":"a"},{"tag":"state","id":"a"},{"tag":"state","id":"b"}]}]}"#,
-            script: concat!(
-                "start s i\n",
-                "post s i\n",
-                "post s x\n",
-            ),
+            script: concat!("start s i\n", "post s i\n", "post s x\n",),
             report: concat!(
                 "2 c0 start s i\n",
                 "= started\n",
@@ -333,9 +303,7 @@ fn a_fault_stops_its_block_alone(rt: HostRuntime) -> Result<(), Fail> {
         &Worked {
             name: "v",
             chart: r#"{"tag":"scxml","kids":[{"tag":"datamodel","kids":[{"tag":"data","id":"x","expr":"0"},{"tag":"data","id":"y","expr":"0"},{"tag":"data","id":"z","expr":"0"},{"tag":"data","id":"n","expr":"0"}]},{"tag":"state","id":"a","kids":[{"tag":"onentry","kids":[{"tag":"assign","location":"x","expr":"1"},{"tag":"assign","location":"y","expr":"9223372036854775807 + 1"},{"tag":"assign","location":"z","expr":"3"}]},{"tag":"onentry","kids":[{"tag":"log","expr":"'next'"}]},{"tag":"transition","event":"error.execution","kids":[{"tag":"assign","location":"n","expr":"n + 1"}]}]}]}"#,
-            script: concat!(
-                "start s v\n",
-            ),
+            script: concat!("start s v\n",),
             report: concat!(
                 "2 c0 start s v\n",
                 "= started\n",
@@ -364,10 +332,7 @@ fn a_turn_beyond_its_limit_runs_away(rt: HostRuntime) -> Result<(), Fail> {
         &Worked {
             name: "l",
             chart: r#"{"tag":"scxml","limit":"5","kids":[{"tag":"datamodel","kids":[{"tag":"data","id":"n","expr":"0"}]},{"tag":"state","id":"a","kids":[{"tag":"onexit","kids":[{"tag":"log","expr":"'bye'"}]},{"tag":"transition","cond":"n < 6","kids":[{"tag":"log","expr":"n"},{"tag":"assign","location":"n","expr":"n + 1"}]}]}]}"#,
-            script: concat!(
-                "start s l\n",
-                "post s e\n",
-            ),
+            script: concat!("start s l\n", "post s e\n",),
             report: concat!(
                 "2 c0 start s l\n",
                 "= started\n",
@@ -397,10 +362,7 @@ fn a_turn_within_its_limit_rests(rt: HostRuntime) -> Result<(), Fail> {
         &Worked {
             name: "l",
             chart: r#"{"tag":"scxml","limit":"5","kids":[{"tag":"datamodel","kids":[{"tag":"data","id":"n","expr":"0"}]},{"tag":"state","id":"a","kids":[{"tag":"onexit","kids":[{"tag":"log","expr":"'bye'"}]},{"tag":"transition","cond":"n < 5","kids":[{"tag":"log","expr":"n"},{"tag":"assign","location":"n","expr":"n + 1"}]}]}]}"#,
-            script: concat!(
-                "start s l\n",
-                "post s e\n",
-            ),
+            script: concat!("start s l\n", "post s e\n",),
             report: concat!(
                 "2 c0 start s l\n",
                 "= started\n",
@@ -434,9 +396,7 @@ fn a_condition_that_has_no_value_runs_away(rt: HostRuntime) -> Result<(), Fail> 
         &Worked {
             name: "b",
             chart: r#"{"tag":"scxml","limit":"5","kids":[{"tag":"state","id":"a","kids":[{"tag":"transition","cond":"nope","kids":[{"tag":"log","expr":"1"}]}]}]}"#,
-            script: concat!(
-                "start s b\n",
-            ),
+            script: concat!("start s b\n",),
             report: concat!(
                 "2 c0 start s b\n",
                 "= started\n",
@@ -459,11 +419,7 @@ fn late_data_are_given_at_the_first_entry(rt: HostRuntime) -> Result<(), Fail> {
         &Worked {
             name: "late",
             chart: r#"{"tag":"scxml","binding":"late","kids":[{"tag":"datamodel","kids":[{"tag":"data","id":"k","expr":"1"}]},{"tag":"state","id":"a","kids":[{"tag":"datamodel","kids":[{"tag":"data","id":"n","expr":"k"}]},{"tag":"onentry","kids":[{"tag":"log","expr":"n"},{"tag":"assign","location":"k","expr":"k + 1"}]},{"tag":"transition","event":"go","target":"b"}]},{"tag":"state","id":"b","kids":[{"tag":"transition","event":"back","target":"a"}]}]}"#,
-            script: concat!(
-                "start s late\n",
-                "post s go\n",
-                "post s back\n",
-            ),
+            script: concat!("start s late\n", "post s go\n", "post s back\n",),
             report: concat!(
                 "2 c0 start s late\n",
                 "= started\n",
@@ -499,11 +455,7 @@ fn done_events_tell_of_regions_and_of_the_parallel(rt: HostRuntime) -> Result<()
         &Worked {
             name: "done",
             chart: r#"{"tag":"scxml","kids":[{"tag":"parallel","id":"p","kids":[{"tag":"transition","event":"done.state.p","kids":[{"tag":"log","expr":"'both'"}]},{"tag":"transition","event":"done.state.r1","kids":[{"tag":"log","expr":"_event.data"}]},{"tag":"state","id":"r1","kids":[{"tag":"state","id":"a","kids":[{"tag":"transition","event":"x","target":"f1"}]},{"tag":"final","id":"f1","kids":[{"tag":"donedata","kids":[{"tag":"content","expr":"'one'"}]}]}]},{"tag":"state","id":"r2","kids":[{"tag":"state","id":"b","kids":[{"tag":"transition","event":"y","target":"f2"}]},{"tag":"final","id":"f2"}]}]}]}"#,
-            script: concat!(
-                "start s done\n",
-                "post s x\n",
-                "post s y\n",
-            ),
+            script: concat!("start s done\n", "post s x\n", "post s y\n",),
             report: concat!(
                 "2 c0 start s done\n",
                 "= started\n",
@@ -537,11 +489,7 @@ fn the_data_of_a_final_come_after_its_exit(rt: HostRuntime) -> Result<(), Fail> 
         &Worked {
             name: "end",
             chart: r#"{"tag":"scxml","kids":[{"tag":"datamodel","kids":[{"tag":"data","id":"n","expr":"1"}]},{"tag":"state","id":"a","kids":[{"tag":"onexit","kids":[{"tag":"assign","location":"n","expr":"2"}]},{"tag":"transition","event":"end","target":"f"}]},{"tag":"final","id":"f","kids":[{"tag":"onexit","kids":[{"tag":"assign","location":"n","expr":"n + 1"},{"tag":"log","expr":"n"}]},{"tag":"donedata","kids":[{"tag":"param","name":"n","expr":"n"},{"tag":"param","name":"m","expr":"nope"}]}]}]}"#,
-            script: concat!(
-                "start s end\n",
-                "post s end\n",
-                "post s end\n",
-            ),
+            script: concat!("start s end\n", "post s end\n", "post s end\n",),
             report: concat!(
                 "2 c0 start s end\n",
                 "= started\n",
@@ -571,9 +519,7 @@ fn eventless_transitions_come_before_internal_events(rt: HostRuntime) -> Result<
         &Worked {
             name: "order",
             chart: r#"{"tag":"scxml","kids":[{"tag":"state","id":"a","kids":[{"tag":"onentry","kids":[{"tag":"raise","event":"i"}]},{"tag":"transition","cond":"In(a)","target":"b"}]},{"tag":"state","id":"b","kids":[{"tag":"transition","event":"i","kids":[{"tag":"log","expr":"'in b'"}]}]}]}"#,
-            script: concat!(
-                "start s order\n",
-            ),
+            script: concat!("start s order\n",),
             report: concat!(
                 "2 c0 start s order\n",
                 "= started\n",

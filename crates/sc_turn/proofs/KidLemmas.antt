@@ -16,6 +16,7 @@ pub node-is : (c : Chart) (s : ℕ) → legal_fault c ≡ None → s < state_cou
 node-is c s legal l = by (node_at c.root (path_of c s)) numbered where
   numbered : is_numbered (tag_of (element c (path_of c s))) ≡ true
   numbered = subst (λ (p : Path). is_numbered (tag_of (element c p)) ≡ true) (sym (path-is c s)) (numbered-at c s l)
+
   by : (o : Option Node) → is_numbered (tag_of (unwrap_or o c.root)) ≡ true → o ≡ Some (unwrap_or o c.root)
   by (Some n) h = refl
   by None h = let none = root_not_numbered c legal in absurd (cc)
