@@ -5,7 +5,7 @@ use Rattle.std.specs.List.{list_all}
 use Rattle.sc_base.specs.Ascending.{with_number}
 use Rattle.sc_law.specs.Fitting.{rises}
 
-both : (u v : Bool) → (u && v) ≡ true → (u ≡ true) × (v ≡ true)
+pub both : (u v : Bool) → (u && v) ≡ true → (u ≡ true) × (v ≡ true)
 both true v h = (refl, h)
 both false v h = absurd (cc)
 

@@ -1,3 +1,4 @@
+pub mod Given
 pub mod Rounds
 pub mod Starts
 pub mod States

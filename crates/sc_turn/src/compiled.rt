@@ -1,11 +1,12 @@
 ghost use Rattle.std.specs.Prelude.{◌≡◌, IfOk, OnOk};
 ghost use Rattle.std.specs.Arc.{arc_value};
 ghost use Rattle.sc_law.specs.Turn.{after, begin, turn, start, finish, settle};
-ghost use Rattle.sc_turn.specs.States.{IsOver, state_of};
+ghost use Rattle.sc_turn.specs.Given.{Gives};
+ghost use Rattle.sc_turn.specs.States.{CanBegin, IsOver, state_of};
 ghost use Rattle.sc_types.specs.declared.session.SessionState.{SessionState as Session};
 
 use crate::beginning::begin;
-use crate::ending::{close, exit_active, finish};
+use crate::ending::{TurnResult, close, exit_active, finish};
 use crate::plan::Plan;
 use crate::rounds::{settle, take_external};
 use crate::run_state::RunState;
@@ -37,19 +38,64 @@ impl Engine for Compiled {
         before: &SessionState,
         cue: &Cue,
     ) -> Result<Turned, NoMemory> {
-        let mut x = begin(alloc, plan, before)?;
-        let phase = run(alloc, &mut x, plan, before, cue)?;
-        let given = close(alloc, plan.tables(), before, x, phase)?;
-        let chart = Arc::try_clone(plan.tables().chart())?;
-        Ok(Turned::new(
-            chart,
-            before.copy()?,
-            cue.copy()?,
-            given.after,
-            given.effects,
-            given.logs,
-        ))
+        let given = given(alloc, plan, before, cue)?;
+        turned(alloc, plan, before, cue, given)
     }
+}
+
+/// What the turn gives.
+fn given(
+    alloc: Global,
+    plan: &Plan,
+    before: &SessionState,
+    cue: &Cue,
+) -> Result<TurnResult, NoMemory>
+    requires { CanBegin plan.now before.now }
+    ensures { IfOk result (Gives plan.now before.now cue.now) }
+{
+    let mut x = begin(alloc, plan, before)?;
+    let phase = run(alloc, &mut x, plan, before, cue)?;
+    close(alloc, plan.tables(), before, x, phase)
+}
+
+/// The turn, with what it gave.
+fn turned(
+    alloc: Global,
+    plan: &Plan,
+    before: &SessionState,
+    cue: &Cue,
+    given: TurnResult,
+) -> Result<Turned, NoMemory>
+    requires { Gives plan.now before.now cue.now given }
+    ensures { IfOk result (λ t. t
+        ≡ record {
+          chart = plan.now;
+          before = before.now;
+          cue = cue.now;
+          after = given.after;
+          effects = given.effects;
+          logs = given.logs;
+        }) }
+{
+    let (chart, before, cue) = copies(plan, before, cue)?;
+    Ok(Turned::new(chart, before, cue, given.after, given.effects, given.logs))
+}
+
+/// What a turn was made of.
+fn copies(
+    plan: &Plan,
+    before: &SessionState,
+    cue: &Cue,
+) -> Result<(Arc<Chart>, SessionState, Cue), NoMemory>
+    ensures chart { IfOk result (λ cs. arc_value cs.0 ≡ plan.now) }
+    ensures before { IfOk result (λ cs. cs.1 ≡ before.now) }
+    ensures cue { IfOk result (λ cs. cs.2 ≡ cue.now) }
+{
+    Ok((
+        Arc::try_clone(plan.tables().chart())?,
+        before.copy()?,
+        cue.copy()?,
+    ))
 }
 
 /// Does what the cue asks for, and gives the phase after it.

@@ -19,7 +19,7 @@ use std::alloc::Global;
 
 /// What an external event does to the invokes of the active states, in document order: the `<finalize>` of those that
 /// sent it, and forwarding. SCXML 6.5 and 6.4.1.
-#[tactic(auto, using(crate::proofs::RunLemmas::runs), unfolding(sc_law::specs::Invokes::finalize))]
+#[tactic(auto, using(sc_select::proofs::RunLemmas::runs), unfolding(sc_law::specs::Invokes::finalize))]
 pub(crate) fn finalize(
     alloc: Global,
     run: &mut Running,
@@ -44,7 +44,7 @@ pub(crate) fn finalize(
 }
 
 /// The invokes of one state.
-#[tactic(auto, using(crate::proofs::RunLemmas::runs))]
+#[tactic(auto, using(sc_select::proofs::RunLemmas::runs))]
 fn finalize_in(
     alloc: Global,
     run: &mut Running,

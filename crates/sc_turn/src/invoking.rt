@@ -22,7 +22,7 @@ use sc_types::{Attribute, Effect, Invoked, Node, PairList, Sequence, Tag, Value}
 use std::alloc::Global;
 
 /// Starts the invokes of the states that were entered and not exited, in document order. SCXML 6.4.
-#[tactic(auto, using(crate::proofs::RunLemmas::runs), unfolding(sc_law::specs::Invokes::start_invokes))]
+#[tactic(auto, using(sc_select::proofs::RunLemmas::runs), unfolding(sc_law::specs::Invokes::start_invokes))]
 pub(crate) fn start_invokes(alloc: Global, x: &mut RunState, t: &Tables) -> Result<(), NoMemory>
     requires { IsOver t.now x.old }
     ensures ok { OnOk result (start_invokes t.now (state_of x.old) ≡ state_of x.new) }
@@ -33,7 +33,7 @@ pub(crate) fn start_invokes(alloc: Global, x: &mut RunState, t: &Tables) -> Resu
     Ok(())
 }
 
-#[tactic(auto, using(crate::proofs::RunLemmas::runs))]
+#[tactic(auto, using(sc_select::proofs::RunLemmas::runs))]
 fn start_all(alloc: Global, run: &mut Running, t: &Tables) -> Result<(), NoMemory>
     requires { IsRunOf t.now run.old }
     ensures ok { OnOk result (each (start_of t.now) run.old.todo.members (running_of run.old) ≡ running_of run.new) }
@@ -50,7 +50,7 @@ fn start_all(alloc: Global, run: &mut Running, t: &Tables) -> Result<(), NoMemor
 }
 
 /// Starts the invokes of a state.
-#[tactic(auto, using(crate::proofs::RunLemmas::runs))]
+#[tactic(auto, using(sc_select::proofs::RunLemmas::runs))]
 fn start_of(alloc: Global, run: &mut Running, t: &Tables, s: u32) -> Result<(), NoMemory>
     requires run { IsRunOf t.now run.old }
     requires s { s < state_count t.now }
@@ -115,7 +115,7 @@ fn fail(alloc: Global, run: &mut Running) -> Result<(), NoMemory>
 
 /// Starts an invoke: the type, the count, `namelist`, the params and the write to `idlocation`, in this order. A fault
 /// starts nothing.
-#[tactic(auto, using(crate::proofs::RunLemmas::runs))]
+#[tactic(auto, using(sc_select::proofs::RunLemmas::runs))]
 fn start_invoke(
     alloc: Global,
     run: &mut Running,

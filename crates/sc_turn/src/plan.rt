@@ -53,10 +53,10 @@ impl Plan {
         requires { legal_fault (arc_value chart.now) ≡ None }
         ensures { IfOk result (λ p. p ≡ arc_value chart.now) }
     {
-        let tables = build(alloc, chart)?;
-        let state_ids = shared_ids(alloc, &tables)?;
         let limit = round_limit(chart)?;
         let name = chart_name(alloc, chart)?;
+        let tables = build(alloc, chart)?;
+        let state_ids = shared_ids(alloc, &tables)?;
         Ok(joined(tables, state_ids, limit, name))
     }
 

@@ -5,7 +5,7 @@ use Rattle.sc_law.specs.Invokes.{finalize, finalize_in}
 use Rattle.sc_exec.specs.Runs.{running_of}
 use Rattle.sc_exec.proofs.Kept.{kept_then}
 use Rattle.sc_sets.proofs.Members.{all_from}
-use Rattle.sc_turn.proofs.RunLemmas.{run_kept}
+use Rattle.sc_select.proofs.RunLemmas.{run_kept}
 use Rattle.sc_turn.proofs.StepLemmas.{member-end, member-step, none-run}
 use Rattle.sc_turn.proofs.finalizing.finalize.Goals as goal
 

@@ -3,7 +3,7 @@ use Rattle.sc_law.specs.Invokes.{finalize_at}
 use Rattle.sc_law.specs.Nodes.{kids}
 use Rattle.sc_exec.specs.Runs.{running_of}
 use Rattle.sc_turn.proofs.KidLemmas.{kids-are}
-use Rattle.sc_turn.proofs.RunLemmas.{run_has_ids}
+use Rattle.sc_select.proofs.RunLemmas.{run_has_ids}
 use Rattle.sc_turn.proofs.StepLemmas.{all-invokes}
 use Rattle.sc_turn.proofs.finalizing.finalize_in.Goals as goal
 

@@ -5,7 +5,7 @@ use Rattle.sc_law.specs.Invokes.{start_of}
 use Rattle.sc_exec.specs.Runs.{running_of}
 use Rattle.sc_exec.proofs.Kept.{kept_then}
 use Rattle.sc_sets.proofs.Members.{all_from}
-use Rattle.sc_turn.proofs.RunLemmas.{run_kept}
+use Rattle.sc_select.proofs.RunLemmas.{run_kept}
 use Rattle.sc_turn.proofs.StepLemmas.{member-end, member-step}
 use Rattle.sc_turn.proofs.invoking.start_all.Goals as goal
 

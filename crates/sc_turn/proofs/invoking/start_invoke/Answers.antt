@@ -6,7 +6,7 @@ use Rattle.sc_law.specs.Invokes.{start_written}
 use Rattle.sc_law.specs.Sending.{PairsOf, child_of, names_of}
 use Rattle.sc_eval.specs.Envs.{env_of}
 use Rattle.sc_exec.specs.Runs.{running_of}
-use Rattle.sc_turn.proofs.RunLemmas.{run_has_ids}
+use Rattle.sc_select.proofs.RunLemmas.{run_has_ids}
 use Rattle.sc_turn.proofs.StartLemmas.{params-born, start-named}
 use Rattle.sc_turn.proofs.invoking.start_invoke.Goals as goal
 
