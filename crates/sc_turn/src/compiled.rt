@@ -109,7 +109,8 @@ fn run(
 ) -> Result<Phase, NoMemory>
     requires over { IsOver plan.now x.old }
     requires begun { state_of x.old ≡ begin plan.now before.now }
-    ensures { IfOk result (λ phase. turn plan.now before.now cue.now ≡ after before.now phase (state_of x.new)) }
+    ensures value { IfOk result (λ phase. turn plan.now before.now cue.now ≡ after before.now phase (state_of x.new)) }
+    ensures over { OnOk result (IsOver plan.now x.new) }
 {
     match cue {
         Cue::Fresh => {
@@ -147,8 +148,9 @@ fn start(
 /// The rounds of a turn, and the phase after them.
 fn rounds(alloc: Global, x: &mut RunState, plan: &Plan, limit: u64) -> Result<Phase, NoMemory>
     requires { IsOver plan.now x.old }
-    ensures { IfOk result (λ phase. (before : Session)
+    ensures value { IfOk result (λ phase. (before : Session)
         → finish plan.now before (settle plan.now limit (state_of x.old)) ≡ after before phase (state_of x.new)) }
+    ensures over { OnOk result (IsOver plan.now x.new) }
 {
     let t = plan.tables();
     let rested = settle(alloc, x, t, limit)?;

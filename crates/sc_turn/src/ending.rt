@@ -1,4 +1,4 @@
-ghost use Rattle.std.specs.Prelude.{◌≡◌, IfOk};
+ghost use Rattle.std.specs.Prelude.{◌≡◌, IfOk, OnOk};
 ghost use Rattle.sc_types.specs.declared.session.SessionState.{SessionState as Session};
 ghost use Rattle.sc_law.specs.Turn.{after, exit_all, finish};
 ghost use Rattle.sc_law.specs.Runs.{with_running};
@@ -25,8 +25,9 @@ pub(crate) struct TurnResult {
 /// Exits what is active, for a session that ends.
 pub(crate) fn exit_active(alloc: Global, x: &mut RunState, t: &Tables) -> Result<Data, NoMemory>
     requires { IsOver t.now x.old }
-    ensures { IfOk result (λ found. (gone : exit_all t.now (state_of x.old).running ≡ (found, (state_of x.new).running))
+    ensures value { IfOk result (λ found. (gone : exit_all t.now (state_of x.old).running ≡ (found, (state_of x.new).running))
         × (state_of x.new ≡ with_running (exit_all t.now (state_of x.old).running).1 (state_of x.old))) }
+    ensures over { OnOk result (IsOver t.now x.new) }
 {
     exit_all(alloc, &mut x.running, t)
 }
@@ -40,8 +41,9 @@ pub(crate) fn finish(
     rested: bool,
 ) -> Result<Phase, NoMemory>
     requires { IsOver t.now x.old }
-    ensures { IfOk result (λ phase. (before : Session)
+    ensures value { IfOk result (λ phase. (before : Session)
         → finish t.now before (rested, state_of x.old) ≡ after before phase (state_of x.new)) }
+    ensures over { OnOk result (IsOver t.now x.new) }
 {
     if !rested {
         return Ok(Phase::Ended(How::Runaway));
