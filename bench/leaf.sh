@@ -25,5 +25,6 @@ compare() { # WORK SMALL LARGE ROUNDS
 
 compare rising 1000 100000 1000000
 compare random 1000 100000 1000000
+compare cancels 1000 100000 1000000
 compare links 1000 100000 1000000
 compare rows 64 4096 100000

@@ -1,4 +1,4 @@
--- Numbers as 64 bits hold them. Only contracts of private functions cite this.
+-- Numbers as 64 bits hold them. This host's own rule.
 use Rattle.std.specs.Prelude.{ℕ, ◌^◌, ◌==◌, Bool, ◌&&◌, nat_lt, if◌then◌else◌, Option, Some, None, List, length, slice_index}
 use Rattle.std.specs.Str.Parse.{digits_value}
 use Rattle.sc_types.specs.Delays.{are_digits}

@@ -13,5 +13,6 @@ mod writer;
 pub use delay::read_delay;
 pub use fault::ExprFault;
 pub use literal::{print_value, put_text, put_value, read_value};
+pub use number::number_of;
 pub use reader::read_expr;
 pub use writer::print_expr;

@@ -6,7 +6,7 @@ ghost use Rattle.sc_expr.specs.Numbers.{below, digits_number, has_leading_zero};
 use sc_types::Token;
 
 /// The number that decimal digits write; `None` where the text is not how it is written, or past 64 bits.
-fn number_of(text: &[u8]) -> Option<u64>
+pub fn number_of(text: &[u8]) -> Option<u64>
     ensures { result ≡ below (2 ^ 64) (number_of text.now) }
 {
     if has_leading_zero(text) {

@@ -15,6 +15,7 @@ fn done(alloc: Global, work: &str, size: u32, rounds: u32) -> Option<u64> {
     match work {
         "random" => timers::work(alloc, size, rounds, 4_294_967_296),
         "rising" => timers::work(alloc, size, rounds, 1),
+        "cancels" => timers::cancels(alloc, size, rounds),
         "links" => links::work(alloc, size, rounds),
         "rows" => rows::work(alloc, size, rounds),
         "expressions" => expressions::work(alloc, size, rounds),

@@ -9,8 +9,6 @@ mod devices;
 #[cfg(test)]
 mod faults;
 #[cfg(test)]
-mod first_form;
-#[cfg(test)]
 mod program;
 #[cfg(test)]
 mod refusals;

@@ -1,5 +1,7 @@
-use crate::program::{RUN, call};
+use crate::program::{RUN, call, call_over};
 use crate::reports::ONE_LOG;
+use sc_base::TextWriter;
+use sc_dev::{MemSink, MemSource, Source};
 use sc_types::NoMemory;
 use std::alloc::Global;
 use std::test::Fail;
@@ -13,6 +15,14 @@ fn other_words_are_no_command(rt: HostRuntime) -> Result<(), Fail> {
         "run --workers 1",
         "--workers 0 run",
         "run --workers 0 0",
+        "run --workers 0 --budget",
+        "run --workers 0 --budget 0",
+        "run --workers 0 --budget 01",
+        "run --workers 0 --budget +1",
+        "run --workers 0 --budget -1",
+        "run --workers 0 --budget 1000000000001",
+        "run --workers 0 --budget 99999999999999999999",
+        "run --budget 1 --workers 0",
         "check x",
         "checks",
         "check --workers 0",
@@ -24,88 +34,70 @@ fn other_words_are_no_command(rt: HostRuntime) -> Result<(), Fail> {
     Ok(())
 }
 
-/// A chart of one state, and what follows it in a script.
-const CHART: &str = r#"chart m {"tag":"scxml","kids":[{"tag":"state","id":"a"}]}"#;
-
-const START: &str = "\nstart s m\n";
-
-const SECOND_CHART: &str =
-    "\nchart n {\"tag\":\"scxml\",\"kids\":[{\"tag\":\"state\",\"id\":\"a\"}]}\nstart s m\n";
-
-const UNKNOWN_TARGET: &str =
-    r#"chart m {"tag":"scxml","kids":[{"tag":"state","id":"a","kids":[{"tag":"transition","event":"e","target":"b"}]}]}"#;
-
-const ID_TWICE: &str =
-    r#"chart m {"tag":"scxml","kids":[{"tag":"state","id":"a"},{"tag":"state","id":"a"}]}"#;
-
-const NO_STATES: &str = r#"chart m {"tag":"scxml","kids":[]}"#;
-
 #[test]
-fn other_texts_are_not_built(rt: HostRuntime) -> Result<(), Fail> {
-    for (what, first, rest) in [
-        ("no text", "", ""),
-        ("no start", CHART, "\n"),
-        ("no last line feed", CHART, "\nstart s m"),
-        ("two spaces", CHART, "\nstart s m\npost s  e\n"),
-        ("a space at a line's end", CHART, " \nstart s m\n"),
-        ("a carriage return", CHART, "\nstart s m\r\n"),
-        ("a start of another chart", CHART, "\nstart s n\n"),
-        (
-            "a post to another session",
-            CHART,
-            "\nstart s m\npost t e\n",
-        ),
-        ("a second chart", CHART, SECOND_CHART),
-        ("an unknown target", UNKNOWN_TARGET, START),
-        ("an id that stands twice", ID_TWICE, START),
-        ("no states", NO_STATES, START),
-    ] {
-        let mut text = Vec::from_slice(rt.alloc(), first.as_bytes())?;
-        text.extend_from_slice(rest.as_bytes())?;
-        let outcome = call(rt.alloc(), RUN, text.as_slice())?;
-        assert_eq!(rt; outcome.status, 12, "{what}");
-        assert_eq!(rt; outcome.written(), b"not-built\n".as_slice(), "{what}");
-    }
+fn nothing_is_read_for_other_words(rt: HostRuntime) -> Result<(), Fail> {
+    let mut source = MemSource::new(rt.alloc(), b"script", 1000, &[])?;
+    let mut sink = MemSink::new(rt.alloc(), 100, 1000, &[])?;
+    let status = call_over(rt.alloc(), "walk", &mut source, &mut sink)?;
+    assert_eq!(rt; status, 1);
+    let mut left = [0u8; 10];
+    assert_eq!(rt; source.read(&mut left).ok(), Some(6));
     Ok(())
 }
 
-#[test]
-fn a_text_that_is_not_utf8_is_not_built(rt: HostRuntime) -> Result<(), Fail> {
-    for rest in [
-        b"\nstart \xff m\n".as_slice(),
-        b"\nstart s m\xff\n",
-        b"\xff\nstart s m\n",
-    ] {
-        let mut text = Vec::from_slice(rt.alloc(), CHART.as_bytes())?;
-        text.extend_from_slice(rest)?;
-        let outcome = call(rt.alloc(), RUN, text.as_slice())?;
-        assert_eq!(rt; outcome.status, 12);
-        assert_eq!(rt; outcome.written(), b"not-built\n".as_slice());
+/// A chart of one state, a session of it, and a post. Its pairs are 36 lists of seven texts of 4,096 bytes, two such
+/// texts, and a text of so many bytes.
+fn heavy_script(alloc: Global, bytes: usize) -> Result<TextWriter, NoMemory> {
+    let mut text = TextWriter::new(alloc);
+    text.text("chart m {\"tag\":\"scxml\",\"kids\":[{\"tag\":\"state\",\"id\":\"a\"}]}\n")?;
+    text.text("start s m\npost s e")?;
+    for _ in 0..36 {
+        text.text(" a=[")?;
+        put_text(&mut text, 4096)?;
+        for _ in 0..6 {
+            text.text(",")?;
+            put_text(&mut text, 4096)?;
+        }
+        text.text("]")?;
     }
-    Ok(())
+    for size in [4096, 4096, bytes] {
+        text.text(" b=")?;
+        put_text(&mut text, size)?;
+    }
+    text.end_line()?;
+    Ok(text)
 }
 
-/// A script whose chart has so many spaces before its states.
-fn script_with(alloc: Global, spaces: usize) -> Result<Vec<u8>, NoMemory> {
-    let mut script = Vec::from_slice(alloc, b"chart m {\"tag\":\"scxml\",")?;
-    for _ in 0..spaces {
-        script.push(b' ')?;
+fn put_text(text: &mut TextWriter, bytes: usize) -> Result<(), NoMemory> {
+    text.text("'")?;
+    for _ in 0..bytes {
+        text.text("x")?;
     }
-    script.extend_from_slice(b"\"kids\":[{\"tag\":\"state\",\"id\":\"a\"}]}\nstart s m\n")?;
-    Ok(script)
+    text.text("'")
 }
 
+const POSTED: &str = concat!(
+    "\n= posted 1\n5 w step s\n= stepped external 1\nsessions 1\ns m live in a\n# 0\n",
+    "clock 0 timers 0\nend quiet\n",
+);
+
+const TOO_HEAVY: &str = concat!(
+    "\n= refused 6 too-long 5\nsessions 1\ns m live in a\n# 0\n",
+    "clock 0 timers 0\nend quiet\n",
+);
+
+/// A pair weighs the bytes of its name, 4 and its value; a text 16 and its bytes; a list 16 and its items. So a list of
+/// seven such texts weighs 28,805 with its name, the two texts 4,117 each, and the last text 21 more than its bytes.
+/// Together they may weigh 1,048,576.
 #[test]
-fn a_script_has_at_most_65536_bytes(rt: HostRuntime) -> Result<(), Fail> {
-    for (spaces, size, status) in [
-        (65_468, 65_536, 0),
-        (65_469, 65_537, 12),
-        (70_000, 70_068, 12),
-    ] {
-        let script = script_with(rt.alloc(), spaces)?;
-        assert_eq!(rt; script.len(), size);
-        let outcome = call(rt.alloc(), RUN, script.as_slice())?;
-        assert_eq!(rt; outcome.status, status, "{size} bytes");
+fn the_weight_of_a_post_is_bounded(rt: HostRuntime) -> Result<(), Fail> {
+    for (bytes, end) in [(3341, POSTED), (3342, TOO_HEAVY)] {
+        let script = heavy_script(rt.alloc(), bytes)?;
+        let mut source = MemSource::new(rt.alloc(), script.slice(), 100_000, &[])?;
+        let mut sink = MemSink::new(rt.alloc(), 2_000_000, 100_000, &[])?;
+        let status = call_over(rt.alloc(), RUN, &mut source, &mut sink)?;
+        assert_eq!(rt; status, 0);
+        assert!(rt; sink.bytes().ends_with(end.as_bytes()), "{bytes}");
     }
     Ok(())
 }

@@ -56,6 +56,8 @@ fn sends_come_by_due_time_and_then_by_number(rt: HostRuntime) -> Result<(), Fail
 #[test]
 fn sends_are_cancelled_by_id_and_discarded_by_session(rt: HostRuntime) -> Result<(), Fail> {
     let mut timers = three(rt.alloc())?;
+    assert_eq!(rt; timers.count(b"s", b"i"), 3);
+    assert_eq!(rt; timers.count(b"s", b"other"), 0);
     assert_eq!(rt; timers.cancel_all(b"s", b"other"), 0);
     assert_eq!(rt; timers.discard(b"other"), 0);
     assert_eq!(rt; timers.cancel_all(b"s", b"i"), 3);

@@ -1,4 +1,5 @@
 pub mod CallerLemmas
-pub mod PlaceLemmas
+pub mod EntryLemmas
+pub mod KeptLemmas
 pub mod SendLemmas
 pub mod SweepLemmas

@@ -1,141 +1,180 @@
--- The walk that takes sends out of the slab, and what is left of the keys.
-use Rattle.std.proofs.Common.{◌≡◌, ◌≢◌, ℕ, ◌+◌, ◌<◌, ◌≤◌, inl, inr, suc, Bool, true, false, not, cond, Option, None, Some, filter, List, [], ◌∷◌, length, get_or, refl, arith, ap, sym, ◌∙◌, subst}
-use Rattle.std.proofs.lemmas.Bool.{cases_eq, cases_lt}
+-- The walk along a session's sends, from the last to the first.
+use Rattle.std.proofs.Common.{◌≡◌, ℕ, ◌+◌, ◌-◌, ◌<◌, ◌≤◌, ◌&&◌, zero, suc, Bool, true, false, not, Option, Some, filter, List, [], ◌∷◌, length, remove, slice_get, take, drop, refl, arith, ap, sym, ◌∙◌, subst}
 use Rattle.std.proofs.lemmas.List.Filters.{length-filter_both}
 use Rattle.std.proofs.lemmas.List.Sums.{length-filter}
-use Rattle.std.specs.Prelude.{is_some, count_by}
+use Rattle.std.specs.Cmp.Lexicographic.{bytes_decides}
+use Rattle.std.specs.Prelude.{count_by}
+use Rattle.sc_ranks.specs.declared.entry.Entry.{Entry}
+use Rattle.sc_ranks.specs.Ranks.{place_of}
 use Rattle.sc_types.specs.declared.host.TimerImage.{TimerImage}
-use Rattle.sc_types.specs.Sends.{IsBeforeAll, IsInDueOrder}
-use Rattle.sc_timers.specs.Order.{sends_at, AreFull, IsAway, AreDistinct, AreKept, unless, AreSwept}
-use Rattle.sc_timers.proofs.SendLemmas.{length-sends, full_some, sends-cons}
+use Rattle.sc_types.specs.Sends.{is_of}
+use Rattle.sc_timers.specs.declared.timed.Pick.{Pick}
+use Rattle.sc_timers.specs.Order.{picks, sends_of, session_rank, by_due, by_session, AreOf, one, passing, AreKept, ArePair, AreBelow, IsPicked, picked_at}
+use Rattle.sc_timers.proofs.EntryLemmas.{passing-fewer}
+use Rattle.sc_timers.proofs.KeptLemmas.{place-within}
+use Rattle.sc_timers.proofs.SendLemmas.{IsOfRank, test-at, slice_get-sends, length-sends, filter-remove, count-sends, filter-none, picked-fewer, none-below, below-place, none-after-place, passing-split, passing-more, take-remove, drop-remove}
 
--- ---- the walk
+-- ---- picked sends
 
-unless-twice : (test : TimerImage → Bool) (o : Option TimerImage) → unless test (unless test o) ≡ unless test o
-unless-twice test None = refl
-unless-twice test (Some s) = by (test s) refl
-  where
-    by : (v : Bool) → test s ≡ v → unless test (cond v None (Some s)) ≡ cond v None (Some s)
-    by true e = refl
-    by false e = ap (λ v. cond v None (Some s)) e
+first-part : (a b : Bool) → (a && b) ≡ true → a ≡ true
+first-part true b e = refl
+first-part false b e = e
 
--- the first i keys are done, and at each key a removal would leave what it would have left at the start
-pub record Sweeps (test : TimerImage → Bool) (at now_at : ℕ → Option TimerImage) (keys : List ℕ) (i : ℕ) : Type 0 where
-  pub done : (j : ℕ) → j < i → j < length keys → now_at (get_or keys j 0) ≡ unless test (at (get_or keys j 0))
-  pub alike : (k : ℕ) → unless test (now_at k) ≡ unless test (at k)
+-- what is picked has the rank of its session
+pub picks-rank : (p : Pick) (rank : ℕ) → rank ≡ session_rank p.session.now → IsOfRank (picks p) rank
+picks-rank p rank e t h =
+    let same = first-part (is_of p.session.now t) _ h in
+    ap session_rank ((bytes_decides t.session p.session.now).0 same) ∙ sym e
 
--- before the first key nothing is taken out
-pub sweep-starts : (test : TimerImage → Bool) (at : ℕ → Option TimerImage) (keys : List ℕ) → Sweeps test at at keys 0
-sweep-starts test at keys = record { done = λ j a b. absurd (omega arith); alike = λ k. refl }
+below-take : (rank : ℕ) (es : List Entry) (p f : ℕ) → p ≤ f → AreBelow rank (take f es) → AreBelow rank (take p es)
+below-take rank es zero f h b = tt
+below-take rank es (suc p) zero h b = absurd (omega (arith, h))
+below-take rank [] (suc p) (suc f) h b = tt
+below-take rank (e ∷ es) (suc p) (suc f) h b = (b.0, below-take rank es p f (omega (arith, h)) b.1)
 
--- the next key is done once its send is gone where it passes the test
-pub sweep-more : (test : TimerImage → Bool) (at now_at new_at : ℕ → Option TimerImage) (keys : List ℕ) (i k : ℕ) → k ≡ get_or keys i 0
-    → Sweeps test at now_at keys i → new_at k ≡ unless test (now_at k) → ((j : ℕ) → j ≢ k → new_at j ≡ now_at j) → Sweeps test at new_at keys (i + 1)
-sweep-more test at now_at new_at keys i k same w changed others = record {
-  done = λ j a b. elim (cases_eq (get_or keys j 0) k) [
-    | inl e ↦ here (get_or keys j 0) (sym e)
-    | inr n ↦ others (get_or keys j 0) n ∙ elim (cases_lt j i) [
-      | inl l ↦ w.done j l b
-      | inr g ↦ absurd (n (let last : j ≡ i = omega arith in ap (λ m. get_or keys m 0) last ∙ sym same))
-    ]
-  ];
-  alike = λ j. elim (cases_eq j k) [
-    | inl e ↦ ap (unless test) (here j (sym e)) ∙ unless-twice test (at j)
-    | inr n ↦ ap (unless test) (others j n) ∙ w.alike j
-  ];
+of-take : (ranked : ℕ → TimerImage → Entry) (at : ℕ → Option TimerImage) (es : List Entry) (p : ℕ) → AreOf ranked at es
+    → AreOf ranked at (take p es)
+of-take ranked at es zero a = tt
+of-take ranked at [] (suc p) a = tt
+of-take ranked at (e ∷ es) (suc p) a = (a.0, of-take ranked at es p a.1)
+
+same_entry : (o : Option Entry) (a b : Entry) → o ≡ Some a → o ≡ Some b → a ≡ b
+same_entry o a b h k = cc
+
+length-remove : (es : List Entry) (i : ℕ) (e : Entry) → slice_get es i ≡ Some e → length (remove es i) + 1 ≡ length es
+length-remove [] i e h = cc
+length-remove (x ∷ xs) zero e h = omega arith
+length-remove (x ∷ xs) (suc i) e h = omega (arith, length-remove xs i e h)
+
+-- ---- the walk that counts
+
+-- as many are picked as from the end of the walk on, where all before are below the rank
+pub count-ends : (test : TimerImage → Bool) (rank : ℕ) (at : ℕ → Option TimerImage) (dues sessions : List Entry) (p : ℕ)
+    → IsOfRank test rank → AreKept at dues sessions → p ≤ place_of rank 0 sessions
+    → passing (picked_at test at) (drop p sessions) ≡ count_by test (sends_of at dues)
+count-ends test rank at dues sessions p f kept h =
+    let below = below-take rank sessions p (place_of rank 0 sessions) h (below-place rank sessions) in
+    let none = none-below test rank at (take p sessions) f (of-take by_session at sessions p kept.session) below in
+    omega (
+      arith,
+      none,
+      passing-split (picked_at test at) sessions p,
+      kept.same (picked_at test at),
+      count-sends by_due
+          test at dues kept.due,
+    )
+
+-- where one more was looked at, it is counted if it is picked
+pub count-more : (v : Bool) (test : TimerImage → Bool) (at : ℕ → Option TimerImage) (sessions : List Entry) (p : ℕ)
+    → IsPicked v test at sessions p
+    → passing (picked_at test at) (drop p sessions) ≡ one v + passing (picked_at test at) (drop (suc p) sessions)
+count-more v test at sessions p i =
+    passing-more (picked_at test at) sessions p i.entry i.there
+    ∙ ap (λ n. n + passing (picked_at test at) (drop (suc p) sessions)) (ap one i.picked)
+
+-- ---- the walk that takes
+
+-- from the place on no send is picked, those that were taken were, and the entries before the first are below the rank
+pub record Sweeps (test : TimerImage → Bool) (rank first : ℕ) (at now_at : ℕ → Option TimerImage)
+    (dues dues_now sessions_now : List Entry) (place : ℕ) : Type 0 where
+  pub kept : AreKept now_at dues_now sessions_now
+  pub sends : filter (λ s. not (test s)) (sends_of now_at dues_now) ≡ filter (λ s. not (test s)) (sends_of at dues)
+  pub rest : passing (picked_at test now_at) (drop place sessions_now) ≡ 0
+  pub front : AreBelow rank (take first sessions_now)
+  pub within : place ≤ length sessions_now
+
+pub sweep-starts : (test : TimerImage → Bool) (rank : ℕ) (at : ℕ → Option TimerImage) (dues sessions : List Entry)
+    → IsOfRank test rank → AreKept at dues sessions
+    → Sweeps test rank (place_of rank 0 sessions) at at dues dues sessions (place_of (rank + 1) 0 sessions)
+sweep-starts test rank at dues sessions f kept = record {
+  kept = kept;
+  sends = refl;
+  rest = none-after-place test rank at sessions f kept.session kept.session_rising;
+  front = below-place rank sessions;
+  within = place-within (rank + 1) 0 sessions;
 }
-  where
-    here : (j : ℕ) → k ≡ j → new_at j ≡ unless test (at j)
-    here j e = (let Here : ℕ → Type 0 = λ m. new_at m ≡ unless test (at m) in subst Here e (changed ∙ w.alike k))
 
-swept-from : (test : TimerImage → Bool) (at now_at : ℕ → Option TimerImage) (keys : List ℕ)
-    → ((j : ℕ) → j < length keys → now_at (get_or keys j 0) ≡ unless test (at (get_or keys j 0))) → AreSwept test at now_at keys
-swept-from test at now_at [] h = tt
-swept-from test at now_at (k ∷ ks) h = (h 0 (omega arith), swept-from test at now_at ks (λ j b. h (suc j) (omega arith)))
+-- a send that is not picked is passed over
+pub sweep-passes : (test : TimerImage → Bool) (rank first : ℕ) (at now_at : ℕ → Option TimerImage)
+    (dues dues_now sessions_now : List Entry) (place : ℕ)
+    → Sweeps test rank first at now_at dues dues_now sessions_now place
+    → 0 < place → IsPicked false test now_at sessions_now (place - 1)
+    → Sweeps test rank first at now_at dues dues_now sessions_now (place - 1)
+sweep-passes test rank first at now_at dues dues_now sessions_now place s h i =
+    let next : suc (place - 1) ≡ place = omega (arith, h) in
+    let rest = ap (λ n. passing (picked_at test now_at) (drop n sessions_now)) next ∙ s.rest in
+    record {
+      kept = s.kept;
+      sends = s.sends;
+      rest = omega (arith, count-more false test now_at sessions_now (place - 1) i, rest);
+      front = s.front;
+      within = omega (arith, s.within);
+    }
 
--- after the last key exactly the sends that pass are taken out
-pub sweep-ends : (test : TimerImage → Bool) (at now_at : ℕ → Option TimerImage) (keys : List ℕ) (i : ℕ) → Sweeps test at now_at keys i → length keys ≤ i
-    → AreSwept test at now_at keys
-sweep-ends test at now_at keys i w h = swept-from test at now_at keys (λ j b. w.done j (omega arith) b)
+-- a send that is picked is taken
+pub sweep-takes : (test : TimerImage → Bool) (rank first : ℕ) (at now_at new_at : ℕ → Option TimerImage)
+    (dues dues_now sessions_now dues_new sessions_new : List Entry) (place due : ℕ) (t : TimerImage)
+    → Sweeps test rank first at now_at dues dues_now sessions_now place
+    → first < place → IsPicked true test now_at sessions_now (place - 1) → ArePair dues_now sessions_now due (place - 1)
+    → AreKept new_at dues_new sessions_new → slice_get (sends_of now_at dues_now) due ≡ Some t
+    → sends_of new_at dues_new ≡ remove (sends_of now_at dues_now) due → sessions_new ≡ remove sessions_now (place - 1)
+    → ((k : ℕ) (u : TimerImage) → new_at k ≡ Some u → now_at k ≡ Some u)
+    → Sweeps test rank first at new_at dues dues_new sessions_new (place - 1)
+sweep-takes test rank first at now_at new_at dues dues_now sessions_now dues_new sessions_new place due t s h i pair
+    kept got sends sessions fewer =
+    let next : suc (place - 1) ≡ place = omega (arith, h) in
+    let old = ap (λ n. passing (picked_at test now_at) (drop n sessions_now)) next ∙ s.rest in
+    let less = passing-fewer (picked_at test new_at) (picked_at test now_at) (drop (suc (place - 1)) sessions_now)
+    (picked-fewer test now_at new_at fewer) in
+    let left = ap (λ es. passing (picked_at test new_at) (drop (place - 1) es)) sessions
+    ∙ ap (λ es. passing (picked_at test new_at) es) (drop-remove sessions_now (place - 1) i.entry i.there) in
+    let found : now_at pair.first.key ≡ Some t =
+    sym (slice_get-sends by_due now_at dues_now due pair.first s.kept.due pair.at_first) ∙ got in
+    let key = pair.key ∙ ap (λ (e : Entry). e.key) (same_entry _ _ _ pair.at_second i.there) in
+    let picked : test t ≡ true = sym (test-at test now_at pair.first.key t found) ∙ ap (picked_at test now_at) key
+    ∙ i.picked in
+    record {
+      kept = kept;
+      sends = ap (filter (λ x. not (test x))) sends
+          ∙ filter-remove (λ x. not (test x)) (sends_of now_at dues_now) due t got (ap not picked) ∙ s.sends;
+      rest = omega (arith, old, less, left);
+      front = subst (λ es. AreBelow rank es)
+          (sym (ap (take first) sessions ∙ take-remove sessions_now first (place - 1) (omega (arith, h)))) s.front;
+      within = omega (arith, s.within, ap length sessions, length-remove sessions_now (place - 1) i.entry i.there);
+    }
 
--- ---- the keys that are left
+-- at the first entry of the rank, all that are picked are taken
+pub sweep-ends : (test : TimerImage → Bool) (rank first : ℕ) (at now_at : ℕ → Option TimerImage)
+    (dues dues_now sessions_now : List Entry) (place : ℕ) → IsOfRank test rank
+    → Sweeps test rank first at now_at dues dues_now sessions_now place → place ≤ first
+    → sends_of now_at dues_now ≡ filter (λ s. not (test s)) (sends_of at dues)
+sweep-ends test rank first at now_at dues dues_now sessions_now place f s h =
+    let below = below-take rank sessions_now place first h s.front in
+    let none = none-below test rank now_at (take place sessions_now) f
+    (of-take by_session now_at sessions_now place s.kept.session) below in
+    let all : count_by test (sends_of now_at dues_now) ≡ 0 =
+    omega (
+      arith,
+      none,
+      s.rest,
+      passing-split (picked_at test now_at) sessions_now place,
+      s.kept.same
+          (picked_at test now_at),
+      count-sends by_due test now_at dues_now s.kept.due,
+    ) in
+    sym (filter-none test (sends_of now_at dues_now) all) ∙ s.sends
 
--- the sends of the keys that are left are those that failed the test
-pub sends-left : (test : TimerImage → Bool) (at new_at : ℕ → Option TimerImage) (ks : List ℕ) → AreFull at ks → AreSwept test at new_at ks
-    → sends_at new_at (filter (λ k. is_some (new_at k)) ks) ≡ filter (λ s. not (test s)) (sends_at at ks)
-sends-left test at new_at [] f w = refl
-sends-left test at new_at (k ∷ ks) f w =
-    let first = full_some (at k) f.0 in
-    by (test first.0) first.0 refl (w.0 ∙ ap (unless test) first.1) (sends-left test at new_at ks f.1 w.1)
-    ∙ ap (filter (λ s. not (test s))) (sym (sends-cons at k ks first.0 first.1))
-  where
-    by : (v : Bool) (s : TimerImage) → test s ≡ v → new_at k ≡ unless test (Some s)
-        → sends_at new_at (filter (λ j. is_some (new_at j)) ks) ≡ filter (λ x. not (test x)) (sends_at at ks)
-        → sends_at new_at (filter (λ j. is_some (new_at j)) (k ∷ ks)) ≡ filter (λ x. not (test x)) (s ∷ sends_at at ks)
-    by true s t e ih =
-        let gone : new_at k ≡ None = e ∙ ap (λ v. cond v None (Some s)) t in
-        ap (λ o. sends_at new_at (cond (is_some o) (k ∷ filter (λ j. is_some (new_at j)) ks) (filter (λ j. is_some (new_at j)) ks))) gone
-        ∙ ih ∙ ap (λ v. cond (not v) (s ∷ filter (λ x. not (test x)) (sends_at at ks)) (filter (λ x. not (test x)) (sends_at at ks))) (sym t)
-    by false s t e ih =
-        let stays : new_at k ≡ Some s = e ∙ ap (λ v. cond v None (Some s)) t in
-        ap (λ o. sends_at new_at (cond (is_some o) (k ∷ filter (λ j. is_some (new_at j)) ks) (filter (λ j. is_some (new_at j)) ks))) stays
-        ∙ sends-cons new_at k (filter (λ j. is_some (new_at j)) ks) s stays
-        ∙ ap (λ ss. s ∷ ss) ih ∙ ap (λ v. cond (not v) (s ∷ filter (λ x. not (test x)) (sends_at at ks)) (filter (λ x. not (test x)) (sends_at at ks))) (sym t)
-
-full-left : (at : ℕ → Option TimerImage) (ks : List ℕ) → AreFull at (filter (λ k. is_some (at k)) ks)
-full-left at [] = tt
-full-left at (k ∷ ks) = by (is_some (at k)) refl (full-left at ks)
-  where
-    by : (v : Bool) → is_some (at k) ≡ v → AreFull at (filter (λ j. is_some (at j)) ks)
-        → AreFull at (cond v (k ∷ filter (λ j. is_some (at j)) ks) (filter (λ j. is_some (at j)) ks))
-    by true e f = (e, f)
-    by false e f = f
-
--- as many keys go as sends passed the test
-pub count-left : (test : TimerImage → Bool) (at new_at : ℕ → Option TimerImage) (ks : List ℕ) → AreFull at ks → AreSwept test at new_at ks
-    → length (filter (λ k. is_some (new_at k)) ks) + count_by test (sends_at at ks) ≡ length ks
-count-left test at new_at ks f w =
-    let left : length (filter (λ k. is_some (new_at k)) ks) ≡ length (filter (λ s. not (test s)) (sends_at at ks)) =
-    sym (length-sends new_at (filter (λ k. is_some (new_at k)) ks) (full-left new_at ks)) ∙ ap length (sends-left test at new_at ks f w) in
-    omega (arith, left, length-filter test (sends_at at ks), length-filter_both test (λ s. not (test s)) (λ s. refl) (sends_at at ks), length-sends at ks f)
-
-away-filter : (p : ℕ → Bool) (x : ℕ) (ks : List ℕ) → IsAway x ks → IsAway x (filter p ks)
-away-filter p x [] a = tt
-away-filter p x (k ∷ ks) a = by (p k) (away-filter p x ks a.1)
-  where
-    by : (v : Bool) → IsAway x (filter p ks) → IsAway x (cond v (k ∷ filter p ks) (filter p ks))
-    by true f = (a.0, f)
-    by false f = f
-
-distinct-filter : (p : ℕ → Bool) (ks : List ℕ) → AreDistinct ks → AreDistinct (filter p ks)
-distinct-filter p [] d = tt
-distinct-filter p (k ∷ ks) d = by (p k) (away-filter p k ks d.0) (distinct-filter p ks d.1)
-  where
-    by : (v : Bool) → IsAway k (filter p ks) → AreDistinct (filter p ks) → AreDistinct (cond v (k ∷ filter p ks) (filter p ks))
-    by true a f = (a, f)
-    by false a f = f
-
-ahead-filter : (p : TimerImage → Bool) (t : TimerImage) (ss : List TimerImage) → IsBeforeAll t ss → IsBeforeAll t (filter p ss)
-ahead-filter p t [] a = tt
-ahead-filter p t (s ∷ ss) a = by (p s) (ahead-filter p t ss a.1)
-  where
-    by : (v : Bool) → IsBeforeAll t (filter p ss) → IsBeforeAll t (cond v (s ∷ filter p ss) (filter p ss))
-    by true f = (a.0, f)
-    by false f = f
-
-ordered-filter : (p : TimerImage → Bool) (ss : List TimerImage) → IsInDueOrder ss → IsInDueOrder (filter p ss)
-ordered-filter p [] h = tt
-ordered-filter p (s ∷ ss) h = by (p s) (ahead-filter p s ss h.0) (ordered-filter p ss h.1)
-  where
-    by : (v : Bool) → IsBeforeAll s (filter p ss) → IsInDueOrder (filter p ss) → IsInDueOrder (cond v (s ∷ filter p ss) (filter p ss))
-    by true a f = (a, f)
-    by false a f = f
-
--- the keys that are left are kept in order, each with a send
-pub kept-left : (test : TimerImage → Bool) (at new_at : ℕ → Option TimerImage) (ks : List ℕ) → AreKept at ks → AreSwept test at new_at ks
-    → AreKept new_at (filter (λ k. is_some (new_at k)) ks)
-kept-left test at new_at ks kept w = record {
-  full = full-left new_at ks;
-  distinct = distinct-filter (λ k. is_some (new_at k)) ks kept.distinct;
-  ordered = subst IsInDueOrder (sym (sends-left test at new_at ks kept.full w)) (ordered-filter (λ s. not (test s)) (sends_at at ks) kept.ordered);
-}
+-- as many are gone as were picked
+pub count-gone : (test : TimerImage → Bool) (at now_at : ℕ → Option TimerImage) (dues dues_now : List Entry)
+    → AreOf by_due at dues → AreOf by_due now_at dues_now
+    → sends_of now_at dues_now ≡ filter (λ s. not (test s)) (sends_of at dues)
+    → length dues_now + count_by test (sends_of at dues) ≡ length dues
+count-gone test at now_at dues dues_now a b e =
+    omega (
+      arith,
+      length-sends by_due at dues a,
+      length-sends by_due now_at dues_now b,
+      ap length e,
+      length-filter test (sends_of at dues),
+      length-filter_both test (λ s. not (test s)) (λ s. refl) (sends_of at dues),
+    )

@@ -1,9 +1,9 @@
 //! The delayed sends that are pending (SCXML 6.2), in the order in which they come due.
 //!
-//! Only `reserve` takes memory.
+//! Only `reserve` takes memory. What a call costs hardly grows with the sends of other sessions.
 #![tactic(auto)]
 
-mod removal;
+mod kept;
 mod timed;
 mod timers;
 

@@ -1,32 +1,29 @@
-ghost use Rattle.std.specs.Prelude.{◌≡◌, ◌-◌, ◌<◌, ◌≤◌, ℕ, List, [], ◌∷◌, map, length, not, filter, count_by, slice_get, slice_index};
+ghost use Rattle.std.specs.Prelude.{◌≡◌, ◌-◌, ◌<◌, ◌≤◌, ℕ, List, [], ◌∷◌, length, not, filter, count_by, slice_get};
 ghost use Rattle.std.specs.Prelude.{Option, Some, OnOk, OnErr, IfNone, IfSome, All};
 ghost use Rattle.std.specs.Option.{option_copied};
 ghost use Rattle.sc_types.specs.Sends.{with_send, is_of, is_send, IsBeforeAll, IsInDueOrder};
-ghost use Rattle.sc_timers.specs.Order.{picks, IsPlaceAfter};
+ghost use Rattle.sc_timers.specs.Order.{picks};
 
-use crate::removal::{keep_full, remove_sends};
+use crate::kept::{Kept, add, count_picked, remove_picked, take_first};
 use crate::timed::{Pick, Timed};
 use sc_base::NoMemory;
+use sc_ranks::Ranks;
 use slab::Slab;
 use std::alloc::Global;
-use std::collections::VecDeque;
 use std::marker::Model;
 
 /// The pending sends, and for how many more there is room.
 #[derive(Drop)]
 pub struct Timers {
-    sends: Slab<Timed>,
-    // The keys of the sends, in due order.
-    order: VecDeque<usize>,
+    kept: Kept,
     spare: usize,
 }
 
 impl Model for Timers {
-    ghost use Rattle.std.specs.Prelude.{ℕ, ◌+◌, ◌≤◌};
-    ghost use Rattle.std.specs.VecDeque.{deque_len, deque_capacity};
+    ghost use Rattle.std.specs.Prelude.{ℕ, ◌≤◌};
     ghost use Rattle.slab.specs.Slab.{get as send_at, HasRoomFor};
     ghost use Rattle.sc_timers.specs.Timers.{TimersOf};
-    ghost use Rattle.sc_timers.specs.Order.{sends_at, AreKept};
+    ghost use Rattle.sc_timers.specs.Order.{sends_of, AreKept};
     ghost use Rattle.sc_types.specs.contracts.host.TimerImage as timed;
     ghost use Rattle.std.specs.Coded.{codes};
 
@@ -34,10 +31,10 @@ impl Model for Timers {
 
     ghost coded = { Prim.hlevel (codes, timed.the_row.coded) };
 
-    ghost view = { λ t. record { sends = sends_at (send_at t.sends) t.order.items; spare = t.spare } };
+    ghost view = { λ t. record { sends = sends_of (send_at t.kept.sends) t.kept.due.entries; spare = t.spare } };
 
-    ghost invariant = { λ t. AreKept (send_at t.sends) t.order.items
-        × (deque_len t.order + t.spare ≤ deque_capacity t.order) × HasRoomFor t.sends t.spare };
+    ghost invariant = { λ t. AreKept (send_at t.kept.sends) t.kept.due.entries t.kept.session.entries
+        × (t.spare ≤ t.kept.due.spare) × (t.spare ≤ t.kept.session.spare) × HasRoomFor t.kept.sends t.spare };
 }
 
 impl Timers {
@@ -46,8 +43,11 @@ impl Timers {
         ensures { result ≡ record { sends = []; spare = 0 } }
     {
         Timers {
-            sends: Slab::new(alloc),
-            order: VecDeque::new(alloc),
+            kept: Kept {
+                sends: Slab::new(alloc),
+                due: Ranks::new(alloc),
+                session: Ranks::new(alloc),
+            },
             spare: 0,
         }
     }
@@ -62,8 +62,9 @@ impl Timers {
         if count <= self.spare {
             return Ok(());
         }
-        self.order.reserve(count)?;
-        self.sends.reserve(count)?;
+        self.kept.due.reserve(count)?;
+        self.kept.session.reserve(count)?;
+        self.kept.sends.reserve(count)?;
         self.spare = count;
         Ok(())
     }
@@ -74,13 +75,19 @@ impl Timers {
         requires newest { All (λ s. s.number < send.number) self.old.sends }
         ensures { self.new ≡ record { sends = with_send send self.old.sends; spare = self.old.spare - 1 } }
     {
-        let place = self.place_after(send.due);
-        let key = self.sends.insert_reserved(send);
-        match self.order.insert(place, key) {
-            Ok(()) => {}
-            Err(_) => unreachable!(),
-        }
+        add(&mut self.kept, send);
         self.spare -= 1;
+    }
+
+    /// How many sends of a session have an id. What it costs depends on the sends of that session.
+    pub fn count(&self, session: &[u8], id: &[u8]) -> u64
+        ensures { result ≡ count_by (is_send session.now id.now) self.now.sends }
+    {
+        let pick = Pick {
+            session,
+            id: Some(id),
+        };
+        count_picked(&self.kept, pick)
     }
 
     /// Removes the sends of a session with an id, and counts them.
@@ -124,37 +131,10 @@ impl Timers {
         ensures value { option_copied result ≡ slice_get self.now.sends place }
         ensures order { IsInDueOrder self.now.sends }
     {
-        if place >= self.order.len() {
-            return None;
+        match self.kept.due.get(place) {
+            Some(entry) => self.kept.sends.get(entry.key),
+            None => None,
         }
-        self.sends.get(self.order[place])
-    }
-
-    fn due_at(&self, place: usize) -> u64
-        requires { place < length self.now.sends }
-        ensures { result ≡ slice_index (map (λ s. s.due) self.now.sends) place }
-    {
-        match self.get(place) {
-            Some(send) => send.due,
-            None => unreachable!(),
-        }
-    }
-
-    // Where a send stands that is due then and made after all others: after those that are due no later.
-    fn place_after(&self, due: u64) -> usize
-        ensures { IsPlaceAfter (map (λ s. s.due) self.now.sends) due result }
-    {
-        let mut low = 0;
-        let mut high = self.order.len();
-        while low < high {
-            let middle = low + (high - low) / 2;
-            if self.due_at(middle) <= due {
-                low = middle + 1;
-            } else {
-                high = middle;
-            }
-        }
-        low
     }
 
     fn take_first(&mut self) -> Timed
@@ -162,14 +142,7 @@ impl Timers {
         ensures first { self.old.sends ≡ result ∷ self.new.sends }
         ensures spare { self.new.spare ≡ self.old.spare }
     {
-        let key = match self.order.pop_front() {
-            Some(key) => key,
-            None => unreachable!(),
-        };
-        match self.sends.try_remove(key) {
-            Some(send) => send,
-            None => unreachable!(),
-        }
+        take_first(&mut self.kept)
     }
 
     // Removes the picked sends, and counts them.
@@ -178,9 +151,6 @@ impl Timers {
         ensures sends { self.new.sends ≡ filter (λ s. not (picks pick.entry s)) self.old.sends }
         ensures spare { self.new.spare ≡ self.old.spare }
     {
-        let before = self.order.len();
-        remove_sends(&self.order, &mut self.sends, pick);
-        keep_full(&mut self.order, &self.sends);
-        (before - self.order.len()) as u64
+        remove_picked(&mut self.kept, pick)
     }
 }

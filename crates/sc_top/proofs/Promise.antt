@@ -1,132 +1,32 @@
 -- The run of a script from the empty host keeps the whole promise.
-use Rattle.std.proofs.Common.{◌≡◌, ℕ, zero, suc, ◌+◌, ◌<◌, ◌≤◌, Bool, true, false, ◌&&◌, cond, Option, Some, None, List, [], ◌∷◌, length, map, filter, refl, sym, ap, subst, ◌∙◌, arith, rules}
-use Rattle.std.specs.List.{list_all, AllByRecursion}
+use Rattle.std.proofs.Common.{◌≡◌, ◌≢◌, ℕ, zero, suc, ◌+◌, ◌≤◌, Bool, true, false, cond, Option, None, List, [], ◌∷◌, ◌++◌, refl, sym, ap, subst, ◌∙◌, arith}
+use Rattle.std.specs.List.{AllByRecursion}
 use Rattle.std.proofs.lemmas.List.Sums.{sum_by-cons}
 use Rattle.sc_types.specs.declared.command.Command.{Command}
-use Rattle.sc_types.specs.declared.command.Command.TheVariants.{Install, Start, Post, Step}
+use Rattle.sc_types.specs.declared.command.Command.TheVariants.{Install, Start, Post, Tick, Cancel, Step}
 use Rattle.sc_types.specs.declared.command.Reply.{Reply}
 use Rattle.sc_types.specs.declared.history.Entry.{Entry}
-use Rattle.sc_types.specs.declared.history.Who.TheVariants.{Client, Worker}
 use Rattle.sc_types.specs.declared.host.HostImage.{HostImage}
-use Rattle.sc_top.specs.Host.{answer, ready, empty_host}
-use Rattle.sc_top.specs.History.{IsLegal, replay}
-use Rattle.sc_top.specs.Run.{over, of_script, of_ready, next, Enters, Continues, IsRun, is_of, commands_of, is_accepted_step, served_by, is_served, IsNoStep, accepted_steps, IsHistoryOf}
-use Rattle.sc_top.proofs.ChangeLemmas.{change_of}
-use Rattle.sc_top.proofs.GivenLemmas.{given_from}
-use Rattle.sc_top.proofs.Once.{consumed_once}
-use Rattle.sc_top.proofs.PendingLemmas.{AreDistinct, pending, distinct_kept, command_raises, ready_step}
+use Rattle.sc_script.specs.declared.script.Script.{Script}
+use Rattle.sc_script.specs.Steps.{HasNoStep, IsNoStep}
+use Rattle.sc_core.specs.Commands.{answer}
+use Rattle.sc_core.specs.Cues.{ready}
+use Rattle.sc_core.specs.Histories.{replay}
+use Rattle.sc_core.specs.Hosts.{empty_host}
+use Rattle.sc_core.proofs.GivenLemmas.{given_from}
+use Rattle.sc_core.proofs.NameLemmas.{AreDistinct}
+use Rattle.sc_core.proofs.Once.{consumed_once}
+use Rattle.sc_top.specs.Promise.{Reports}
+use Rattle.sc_top.specs.Report.{end_word, report}
+use Rattle.sc_top.specs.Run.{IsHistoryOf, IsRun, Made, accepted_steps, in_turn, is_accepted_step, of_client, of_clients}
+use Rattle.sc_top.specs.Running.{HasRun}
+use Rattle.sc_top.specs.Statuses.{end_status}
+use Rattle.sc_top.specs.declared.run.Run.{Run}
+use Rattle.sc_top.proofs.RunsLemmas.{First, RunsOn, distinct_after, first_entry, legal_of_run, made, over_ready, stepped}
+use Rattle.sc_top.proofs.ServedLemmas.{accepted_ready, served_of_run}
 
--- the first entry of a run is a step of the ready session or the next command, and the rest follows
-pub data First (g : HostImage) (cs : List Command) (budget : ℕ) (e : Entry) (Rest : HostImage → List Command → ℕ → Type 0) : Type 0 where
-  stepped : (name : List ℕ) (less : ℕ) → budget ≡ suc less → ready g ≡ Some name → Enters g Worker (Step name) e → Rest (answer g e.command).host cs less → First g cs budget e Rest
-  made : (c : Command) (after : List Command) → cs ≡ c ∷ after → Enters g (Client 0) c e → Rest (answer g e.command).host after budget → First g cs budget e Rest
-
-of_script_first : (g : HostImage) (cs : List Command) (budget : ℕ) (e : Entry) (Rest : HostImage → List Command → ℕ → Type 0)
-    → Continues (of_script cs) g cs budget e Rest → First g cs budget e Rest
-of_script_first g [] budget e Rest h = absurd h
-of_script_first g (c ∷ cs) budget e Rest h = made c cs refl h.0 h.1
-
-of_ready_first : (g : HostImage) (cs : List Command) (less : ℕ) (e : Entry) (Rest : HostImage → List Command → ℕ → Type 0) (o : Option (List ℕ)) → ready g ≡ o
-    → Continues (of_ready o cs) g cs (suc less) e Rest → First g cs (suc less) e Rest
-of_ready_first g cs less e Rest None none h = of_script_first g cs (suc less) e Rest h
-of_ready_first g cs less e Rest (Some name) is_ready h = stepped name less refl is_ready h.0 h.1
-
-first_of : (g : HostImage) (cs : List Command) (budget : ℕ) (e : Entry) (Rest : HostImage → List Command → ℕ → Type 0)
-    → Continues (next g cs budget) g cs budget e Rest → First g cs budget e Rest
-first_of g cs zero e Rest h = of_script_first g cs 0 e Rest h
-first_of g cs (suc less) e Rest h = of_ready_first g cs less e Rest (ready g) refl h
-
--- the rest of a run
-abbrev RunsOn : List Entry → HostImage → List Command → ℕ → Type 0
-RunsOn es g cs budget = IsRun g cs budget es
-
-first_entry : (g : HostImage) (cs : List Command) (budget : ℕ) (e : Entry) (es : List Entry) → IsRun g cs budget (e ∷ es) → First g cs budget e (RunsOn es)
-first_entry g cs budget e es h = first_of g cs budget e (RunsOn es) h
-
--- a run is over where its script is, and no session is ready or no step is left
-
-over_script : (cs : List Command) → of_script cs ≡ over → cs ≡ []
-over_script [] h = refl
-over_script (c ∷ cs) h = absurd (cc)
-
-over_ready : (o : Option (List ℕ)) (cs : List Command) → of_ready o cs ≡ over → (o ≡ None) × (cs ≡ [])
-over_ready None cs h = (refl, over_script cs h)
-over_ready (Some name) cs h = absurd (cc)
-
-over_commands : (g : HostImage) (cs : List Command) (budget : ℕ) → next g cs budget ≡ over → cs ≡ []
-over_commands g cs zero h = over_script cs h
-over_commands g cs (suc less) h = (over_ready (ready g) cs h).1
-
--- the run of a script is a legal history
-pub legal_of_run : (history : List Entry) (g : HostImage) (cs : List Command) (budget : ℕ) → IsRun g cs budget history → IsLegal g history
-legal_of_run [] g cs budget h = tt
-legal_of_run (e ∷ es) g cs budget h = by_first (first_entry g cs budget e es h) (legal_of_run es (answer g e.command).host) where
-  by_first : First g cs budget e (RunsOn es) → ((cs' : List Command) (budget' : ℕ) → IsRun (answer g e.command).host cs' budget' es → IsLegal (answer g e.command).host es)
-      → IsLegal g (e ∷ es)
-  by_first (stepped name less is is_ready enters rest) others = (enters.told, others cs less rest)
-  by_first (made c after is enters rest) others = (enters.told, others after budget rest)
-
--- the facts of a host that a run goes by
-distinct_after : (g : HostImage) (e : Entry) → AreDistinct g.sessions → AreDistinct (answer g e.command).host.sessions
-distinct_after g e distinct = distinct_kept g e.command (answer g e.command) (change_of g e.command) distinct
-
-step_lowers : (g : HostImage) (name : List ℕ) (e : Entry) → AreDistinct g.sessions → ready g ≡ Some name → e.command ≡ Step name → pending (answer g e.command).host + 1 ≤ pending g
-step_lowers g name e distinct is_ready command = subst (λ c. pending (answer g c).host + 1 ≤ pending g) (sym command) (ready_step g name distinct is_ready).1
-
--- with more steps than can be needed no session is ready at the end
-pub quiet_of_run : (history : List Entry) (g : HostImage) (cs : List Command) (budget : ℕ) → AreDistinct g.sessions → pending g + length cs < budget
-    → IsRun g cs budget history → ready (replay g history) ≡ None
-quiet_of_run [] g cs zero distinct enough h = absurd (omega arith)
-quiet_of_run [] g cs (suc less) distinct enough h = (over_ready (ready g) cs h).0
-quiet_of_run (e ∷ es) g cs budget distinct enough h =
-    by_first (first_entry g cs budget e es h) (λ cs' budget'. quiet_of_run es (answer g e.command).host cs' budget' (distinct_after g e distinct)) where
-      by_first : First g cs budget e (RunsOn es)
-          → ((cs' : List Command) (budget' : ℕ) → pending (answer g e.command).host + length cs' < budget' → IsRun (answer g e.command).host cs' budget' es → ready (replay (answer g e.command).host es) ≡ None)
-          → ready (replay g (e ∷ es)) ≡ None
-      by_first (stepped name less is is_ready enters rest) others =
-          let lower = step_lowers g name e distinct is_ready enters.command in
-          others cs less (omega (arith, lower, is)) rest
-      by_first (made c after is enters rest) others =
-          let raised = command_raises g e.command (answer g e.command) (change_of g e.command) in
-          others after budget (omega (arith, raised, ap length is)) rest
-
--- the script is served
-
--- the commands of client 0 in a history whose first entry is or isn't of that client
-abbrev with_first : Entry → List Entry → Bool → List Command
-with_first e es b = map (λ (x : Entry). x.command) (cond b (e ∷ filter (λ (x : Entry). is_of (Client 0) x.who) es) (filter (λ (x : Entry). is_of (Client 0) x.who) es))
-
--- the commands in order, and nothing else but accepted steps
-pub record Served (cs : List Command) (history : List Entry) : Type 0 where
-  pub commands : commands_of (Client 0) history ≡ cs
-  pub others : list_all is_served history ≡ true
-
-served_step : (g : HostImage) (name : List ℕ) (e : Entry) (es : List Entry) (cs : List Command) → AreDistinct g.sessions → ready g ≡ Some name → Enters g Worker (Step name) e → Served cs es
-    → Served cs (e ∷ es)
-served_step g name e es cs distinct is_ready enters rest =
-    let step = subst (λ c. is_accepted_step c (answer g c).reply ≡ true) (sym enters.command) (ready_step g name distinct is_ready).0 in
-    let served : is_served e ≡ true = ap (λ w. served_by w e.command e.reply) enters.who ∙ ap (is_accepted_step e.command) enters.told.reply ∙ step in
-    record {
-      commands = ap (λ w. with_first e es (is_of (Client 0) w)) enters.who ∙ rest.commands;
-      others = ap (λ b. b && list_all is_served es) served ∙ rest.others;
-    }
-
-served_command : (g : HostImage) (c : Command) (e : Entry) (es : List Entry) (cs : List Command) → Enters g (Client 0) c e → Served cs es → Served (c ∷ cs) (e ∷ es)
-served_command g c e es cs enters rest =
-    let served : is_served e ≡ true = ap (λ w. served_by w e.command e.reply) enters.who in
-    record {
-      commands = ap (λ w. with_first e es (is_of (Client 0) w)) enters.who ∙ ap (λ x. x ∷ commands_of (Client 0) es) enters.command ∙ ap (λ xs. c ∷ xs) rest.commands;
-      others = ap (λ b. b && list_all is_served es) served ∙ rest.others;
-    }
-
--- the run of a script makes each of its commands once and in order
-pub served_of_run : (history : List Entry) (g : HostImage) (cs : List Command) (budget : ℕ) → AreDistinct g.sessions → IsRun g cs budget history → Served cs history
-served_of_run [] g cs budget distinct h = record { commands = sym (over_commands g cs budget h); others = refl }
-served_of_run (e ∷ es) g cs budget distinct h =
-    by_first (first_entry g cs budget e es h) (λ cs' budget'. served_of_run es (answer g e.command).host cs' budget' (distinct_after g e distinct)) where
-      by_first : First g cs budget e (RunsOn es) → ((cs' : List Command) (budget' : ℕ) → IsRun (answer g e.command).host cs' budget' es → Served cs' es) → Served cs (e ∷ es)
-      by_first (stepped name less is is_ready enters rest) others = served_step g name e es cs distinct is_ready enters (others cs less rest)
-      by_first (made c after is enters rest) others = subst (λ xs. Served xs (e ∷ es)) (sym is) (served_command g c e es after enters (others after budget rest))
+abbrev NoStepMade : Made → Type 0
+NoStepMade c = IsNoStep c.1
 
 -- no more steps are taken than the budget has
 
@@ -135,40 +35,98 @@ no_step (Step session) reply h = absurd h
 no_step (Install name text) reply h = refl
 no_step (Start session chart) reply h = refl
 no_step (Post session name pairs) reply h = refl
+no_step (Tick ticks) reply h = refl
+no_step (Cancel session) reply h = refl
 
 one_if : (b : Bool) → cond b 1 0 ≤ 1
 one_if true = omega arith
 one_if false = omega arith
 
 -- the run of a script keeps within its budget of steps
-pub within_of_run : (history : List Entry) (g : HostImage) (cs : List Command) (budget : ℕ) → AllByRecursion IsNoStep cs → IsRun g cs budget history → accepted_steps history ≤ budget
+pub within_of_run : (history : List Entry) (g : HostImage) (cs : List Made) (budget : ℕ) → AllByRecursion NoStepMade cs → IsRun g cs budget history → accepted_steps history ≤ budget
 within_of_run [] g cs budget none h = omega arith
 within_of_run (e ∷ es) g cs budget none h =
     by_first (first_entry g cs budget e es h) (within_of_run es (answer g e.command).host) where
       by_first : First g cs budget e (RunsOn es)
-          → ((cs' : List Command) (budget' : ℕ) → AllByRecursion IsNoStep cs' → IsRun (answer g e.command).host cs' budget' es → accepted_steps es ≤ budget')
+          → ((cs' : List Made) (budget' : ℕ) → AllByRecursion NoStepMade cs' → IsRun (answer g e.command).host cs' budget' es → accepted_steps es ≤ budget')
           → accepted_steps (e ∷ es) ≤ budget
       by_first (stepped name less is is_ready enters rest) others =
           let few = others cs less none rest in
           let first = sum_by-cons (λ (x : Entry). cond (is_accepted_step x.command x.reply) 1 0) e es in
           omega (arith, few, first, one_if (is_accepted_step e.command e.reply), is)
       by_first (made c after is enters rest) others =
-          let all = subst (AllByRecursion IsNoStep) is none in
+          let all = subst (AllByRecursion NoStepMade) is none in
           let few = others after budget all.1 rest in
           let first = sum_by-cons (λ (x : Entry). cond (is_accepted_step x.command x.reply) 1 0) e es in
-          let not : is_accepted_step e.command e.reply ≡ false = ap (λ x. is_accepted_step x e.reply) enters.command ∙ no_step c e.reply all.0 in
+          let not : is_accepted_step e.command e.reply ≡ false = ap (λ x. is_accepted_step x e.reply) enters.command ∙ no_step c.1 e.reply all.0 in
           omega (arith, few, first, ap {B = ℕ} (λ b. cond b 1 0) not)
 
--- the whole promise, for a script of so few commands that the budget is never met
-pub history_of_run : (cs : List Command) (budget : ℕ) (history : List Entry) → AllByRecursion IsNoStep cs → length cs < budget → IsRun empty_host cs budget history → IsHistoryOf cs budget history
-history_of_run cs budget history none enough run =
-    let legal = legal_of_run history empty_host cs budget run in
-    let served = served_of_run history empty_host cs budget tt run in
+-- where a session is ready at the end, all steps were taken
+pub spent_of_run : (history : List Entry) (g : HostImage) (cs : List Made) (budget : ℕ) → AreDistinct g.sessions
+    → AllByRecursion NoStepMade cs → IsRun g cs budget history → ready (replay g history) ≢ None
+    → accepted_steps history ≡ budget
+spent_of_run [] g cs zero distinct none h is_ready = refl
+spent_of_run [] g cs (suc less) distinct none h is_ready = absurd (is_ready (over_ready (ready g) cs h).0)
+spent_of_run (e ∷ es) g cs budget distinct none h is_ready =
+    by_first (first_entry g cs budget e es h) (λ cs' budget' none' run. spent_of_run es (answer g e.command).host cs' budget' (distinct_after g e distinct) none' run is_ready) where
+      by_first : First g cs budget e (RunsOn es)
+          → ((cs' : List Made) (budget' : ℕ) → AllByRecursion NoStepMade cs' → IsRun (answer g e.command).host cs' budget' es → accepted_steps es ≡ budget')
+          → accepted_steps (e ∷ es) ≡ budget
+      by_first (stepped name less is is_ready enters rest) others =
+          let all = others cs less none rest in
+          let first = sum_by-cons (λ (x : Entry). cond (is_accepted_step x.command x.reply) 1 0) e es in
+          let one = accepted_ready g name e distinct is_ready enters in
+          omega (arith, all, first, is, ap {B = ℕ} (λ b. cond b 1 0) one)
+      by_first (made c after is enters rest) others =
+          let lacking = subst (AllByRecursion NoStepMade) is none in
+          let all = others after budget lacking.1 rest in
+          let first = sum_by-cons (λ (x : Entry). cond (is_accepted_step x.command x.reply) 1 0) e es in
+          let not : is_accepted_step e.command e.reply ≡ false = ap (λ x. is_accepted_step x e.reply) enters.command ∙ no_step c.1 e.reply lacking.0 in
+          omega (arith, all, first, ap {B = ℕ} (λ b. cond b 1 0) not)
+
+-- a script has no step of its own
+
+own_steps : (n : ℕ) (cs : List Command) → AllByRecursion IsNoStep cs → AllByRecursion NoStepMade (of_client n cs)
+own_steps n [] h = tt
+own_steps n (c ∷ cs) h = (h.0, own_steps n cs h.1)
+
+both_steps : (xs ys : List Made) → AllByRecursion NoStepMade xs → AllByRecursion NoStepMade ys
+    → AllByRecursion NoStepMade (xs ++ ys)
+both_steps [] ys h k = k
+both_steps (x ∷ xs) ys h k = (h.0, both_steps xs ys h.1 k)
+
+client_steps : (n : ℕ) (css : List (List Command)) → AllByRecursion (AllByRecursion IsNoStep) css
+    → AllByRecursion NoStepMade (of_clients n css)
+client_steps n [] h = tt
+client_steps n (cs ∷ css) h =
+    both_steps (of_client n cs) (of_clients (n + 1) css) (own_steps n cs h.0) (client_steps (n + 1) css h.1)
+
+-- the whole promise
+pub history_of_run : (s : Script) (budget : ℕ) (history : List Entry) → HasNoStep s
+    → IsRun empty_host (in_turn s) budget history → IsHistoryOf s budget history
+history_of_run s budget history steps run =
+    let legal = legal_of_run history empty_host (in_turn s) budget run in
+    let none = both_steps (of_client 0 s.setup) (of_clients 1 s.clients) (own_steps 0 s.setup steps.setup)
+    (client_steps 1 s.clients steps.clients) in
     record {
       legal = legal;
       once = record { once = consumed_once history legal; given = given_from [] empty_host history legal tt };
-      served = record { commands = served.commands; others = search rules };
-      quiet = quiet_of_run history empty_host cs budget tt (omega arith) run;
-      within = within_of_run history empty_host cs budget none run;
+      served = served_of_run history empty_host s budget tt run;
+      within = within_of_run history empty_host (in_turn s) budget none run;
+      spent = spent_of_run history empty_host (in_turn s) budget tt none run;
       run = run;
+    }
+
+-- a run that is done is reported with the status and the word of its end
+pub reports_run : (r : Run) (s : Script) (budget : ℕ) (end : Option (List ℕ)) (bytes : List ℕ) → HasNoStep s
+    → HasRun r budget (in_turn s) → ready r.host.image ≡ end → bytes ≡ report 0 r.host.image r.history (end_word end)
+    → Reports s budget (end_status end) bytes
+reports_run r s budget end bytes steps ran is_ready is =
+    let ends = sym is_ready ∙ ap ready ran.host in
+    record {
+      history = r.history;
+      promise = history_of_run s budget r.history steps ran.run;
+      ends = ap end_status ends;
+      is = is ∙ ap (λ h. report 0 h r.history (end_word end)) ran.host
+          ∙ ap (λ o. report 0 (replay empty_host r.history) r.history (end_word o)) ends;
     }

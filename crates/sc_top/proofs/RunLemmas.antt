@@ -5,9 +5,11 @@ use Rattle.sc_types.specs.declared.command.Command.TheVariants.{Step}
 use Rattle.sc_types.specs.declared.history.Entry.{Entry}
 use Rattle.sc_types.specs.declared.history.Who.TheVariants.{Client, Worker}
 use Rattle.sc_types.specs.declared.host.HostImage.{HostImage}
-use Rattle.sc_top.specs.Host.{answer, empty_host, ready}
-use Rattle.sc_top.specs.History.{replay}
-use Rattle.sc_top.specs.Run.{makes, of_ready, next, Enters, Continues, IsRun}
+use Rattle.sc_core.specs.Commands.{answer}
+use Rattle.sc_core.specs.Cues.{ready}
+use Rattle.sc_core.specs.Histories.{replay}
+use Rattle.sc_core.specs.Hosts.{empty_host}
+use Rattle.sc_top.specs.Run.{Made, makes, of_ready, next, Enters, Continues, IsRun}
 use Rattle.sc_top.specs.Held.{IsHeld}
 use Rattle.sc_top.specs.Running.{Makes, Goes, HasStepped, IsUnderWay, HasRun}
 use Rattle.sc_top.specs.declared.host.Host.{Host}
@@ -19,11 +21,11 @@ replay-append g [] fs = refl
 replay-append g (e ∷ es) fs = replay-append (answer g e.command).host es fs
 
 -- a run stays where it is
-pub goes_nowhere : (r : Run) (cs : List Command) → IsHeld r.host → Goes r r cs cs
+pub goes_nowhere : (r : Run) (cs : List Made) → IsHeld r.host → Goes r r cs cs
 goes_nowhere r cs held = record { added = []; history = sym (append-nil r.history); host = refl; held = held; runs = λ rest h. h }
 
 -- a run goes on for two parts
-pub goes_further : (old mid new : Run) (before between after : List Command) → Goes old mid before between → Goes mid new between after → Goes old new before after
+pub goes_further : (old mid new : Run) (before between after : List Made) → Goes old mid before between → Goes mid new between after → Goes old new before after
 goes_further old mid new before between after a b = record {
   added = a.added ++ b.added;
   history = b.history ∙ ap (λ h. h ++ b.added) a.history ∙ append_assoc old.history a.added b.added;
@@ -32,18 +34,18 @@ goes_further old mid new before between after a b = record {
   runs = λ rest h. subst (λ es. IsRun old.host.image before old.left es) (sym (append_assoc a.added b.added rest)) (a.runs (b.added ++ rest) (b.runs rest h));
 }
 
-steps_on : (g : HostImage) (cs : List Command) (left : ℕ) (e : Entry) (rest : List Entry) (name : List ℕ) → ready g ≡ Some name
+steps_on : (g : HostImage) (cs : List Made) (left : ℕ) (e : Entry) (rest : List Entry) (name : List ℕ) → ready g ≡ Some name
     → Enters g Worker (Step name) e → IsRun (answer g e.command).host cs left rest → IsRun g cs (suc left) (e ∷ rest)
 steps_on g cs left e rest name is_ready enters h =
     subst (λ n. Continues n g cs (suc left) e (λ g' cs' left'. IsRun g' cs' left' rest)) (sym (ap (λ o. of_ready o cs) is_ready)) (enters, h)
 
-makes_on : (g : HostImage) (c : Command) (cs : List Command) (left : ℕ) (e : Entry) (rest : List Entry) → next g (c ∷ cs) left ≡ makes c cs
-    → Enters g (Client 0) c e → IsRun (answer g e.command).host cs left rest → IsRun g (c ∷ cs) left (e ∷ rest)
+makes_on : (g : HostImage) (c : Made) (cs : List Made) (left : ℕ) (e : Entry) (rest : List Entry) → next g (c ∷ cs) left ≡ makes c cs
+    → Enters g (Client c.0) c.1 e → IsRun (answer g e.command).host cs left rest → IsRun g (c ∷ cs) left (e ∷ rest)
 makes_on g c cs left e rest is_next enters h =
     subst (λ n. Continues n g (c ∷ cs) left e (λ g' cs' left'. IsRun g' cs' left' rest)) (sym is_next) (enters, h)
 
 -- the session that is ready steps
-pub goes_by_step : (old mid new : Run) (name : List ℕ) (cs : List Command) → mid.host ≡ old.host → mid.history ≡ old.history → old.left ≡ suc mid.left
+pub goes_by_step : (old mid new : Run) (name : List ℕ) (cs : List Made) → mid.host ≡ old.host → mid.history ≡ old.history → old.left ≡ suc mid.left
     → ready old.host.image ≡ Some name → Makes mid new Worker (Step name) → Goes old new cs cs
 goes_by_step old mid new name cs host history left is_ready m =
     let image = ap (λ (h : Host). h.image) host in
@@ -60,18 +62,19 @@ goes_by_step old mid new name cs host history left is_ready m =
     }
 
 -- the next command of the script is made
-pub goes_by_command : (old new : Run) (c : Command) (cs : List Command) → HasStepped old → Makes old new (Client 0) c → Goes old new (c ∷ cs) cs
-goes_by_command old new c cs stepped m = record {
+pub goes_by_command : (old new : Run) (n : ℕ) (c : Command) (cs : List Made) → HasStepped old → Makes old new (Client n) c
+    → Goes old new ((n, c) ∷ cs) cs
+goes_by_command old new n c cs stepped m = record {
   added = m.entry ∷ [];
   history = m.history;
   host = m.host;
   held = m.held;
-  runs = λ rest h. makes_on old.host.image c cs old.left m.entry rest (stepped (c ∷ cs)) m.enters
-      (subst (λ n. IsRun (answer old.host.image m.entry.command).host cs n rest) m.left (subst (λ g. IsRun g cs new.left rest) m.host h));
+  runs = λ rest h. makes_on old.host.image (n, c) cs old.left m.entry rest (stepped ((n, c) ∷ cs)) m.enters
+      (subst (λ k. IsRun (answer old.host.image m.entry.command).host cs k rest) m.left (subst (λ g. IsRun g cs new.left rest) m.host h));
 }
 
 -- what is under way goes on
-pub underway_goes : (old new : Run) (budget : ℕ) (all before after : List Command) → IsUnderWay old budget all before → Goes old new before after → IsUnderWay new budget all after
+pub underway_goes : (old new : Run) (budget : ℕ) (all before after : List Made) → IsUnderWay old budget all before → Goes old new before after → IsUnderWay new budget all after
 underway_goes old new budget all before after u g = record {
   held = g.held;
   host = g.host ∙ ap (λ h. replay h g.added) u.host ∙ sym (replay-append empty_host old.history g.added) ∙ ap (replay empty_host) (sym g.history);
@@ -80,7 +83,7 @@ underway_goes old new budget all before after u g = record {
 }
 
 -- with no command left, and no step to take, the run is done
-pub underway_ends : (r : Run) (budget : ℕ) (all : List Command) → IsUnderWay r budget all [] → HasStepped r → HasRun r budget all
+pub underway_ends : (r : Run) (budget : ℕ) (all : List Made) → IsUnderWay r budget all [] → HasStepped r → HasRun r budget all
 underway_ends r budget all u stepped = record {
   held = u.held;
   host = u.host;
@@ -88,7 +91,7 @@ underway_ends r budget all u stepped = record {
 }
 
 -- a fresh host has its whole run before it
-pub underway_begins : (r : Run) (budget : ℕ) (all : List Command) → r.host.image ≡ empty_host → IsHeld r.host → r.history ≡ [] → r.left ≡ budget
+pub underway_begins : (r : Run) (budget : ℕ) (all : List Made) → r.host.image ≡ empty_host → IsHeld r.host → r.history ≡ [] → r.left ≡ budget
     → IsUnderWay r budget all all
 underway_begins r budget all image held none left = record {
   held = held;

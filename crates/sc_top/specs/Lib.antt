@@ -1,13 +1,10 @@
-pub mod AloneCharts
-pub mod FirstForm
+pub mod Asked
 pub mod Held
-pub mod History
-pub mod Host
+pub mod InvokingCharts
 pub mod Lines
 pub mod Promise
 pub mod Report
 pub mod Run
 pub mod Running
 pub mod Sayings
-pub mod ScriptLines
 pub mod Statuses

@@ -1,74 +1,61 @@
 -- What the program promises: the line or the report that goes with each status. This host's own rule.
-use Rattle.std.specs.Prelude.{ℕ, ◌≡◌, ◌+◌, Option, IfSome, List, [], ◌∷◌, ◌++◌, take, decimal, codes, Ok, Err}
+use Rattle.std.specs.Prelude.{ℕ, ◌≡◌, Option, Some, None, IfSome, IsTrue, List, ◌++◌, not, take, decimal, codes, Ok, Err}
 use Rattle.sc_types.specs.ChartTexts.{count_states}
 use Rattle.sc_types.specs.declared.chart.Chart.{Chart}
 use Rattle.sc_types.specs.declared.chart.ChartFault.{ChartFault}
-use Rattle.sc_types.specs.declared.command.Command.{Command}
 use Rattle.sc_types.specs.declared.history.Entry.{Entry}
-use Rattle.sc_top.specs.Host.{empty_host}
-use Rattle.sc_top.specs.History.{replay}
 use Rattle.sc_law.specs.LegalCharts.{legal_chart_of}
+use Rattle.sc_script.specs.Scripts.{script_of}
+use Rattle.sc_script.specs.declared.fault.ScriptFault.{ScriptFault}
+use Rattle.sc_script.specs.declared.script.Script.{Script}
+use Rattle.sc_core.specs.Cues.{ready}
+use Rattle.sc_core.specs.Histories.{replay}
+use Rattle.sc_core.specs.Hosts.{empty_host}
+use Rattle.sc_top.specs.Asked.{most_read}
+use Rattle.sc_top.specs.InvokingCharts.{script_invokes}
 use Rattle.sc_top.specs.Lines.{line}
-use Rattle.sc_top.specs.Report.{report, fault_text}
+use Rattle.sc_top.specs.Report.{end_word, fault_text, report, script_fault_text}
 use Rattle.sc_top.specs.Run.{IsHistoryOf}
-use Rattle.sc_top.specs.FirstForm.{IsFirstForm}
-use Rattle.sc_top.specs.Statuses.{code}
-use Rattle.sc_types.specs.declared.limits.TheConstants.{CHART_TEXT_LIMIT}
-use Rattle.sc_top.specs.declared.program.TheConstants.{STEP_BUDGET}
-use Rattle.sc_top.specs.declared.script_reader.TheConstants.{SCRIPT_LIMIT}
+use Rattle.sc_top.specs.Statuses.{end_status}
+use Rattle.sc_top.specs.declared.status.Status.{Status}
 use Rattle.sc_top.specs.declared.status.Status.TheVariants as status
+use Rattle.sc_top.specs.declared.words.Asked.{Asked}
+use Rattle.sc_top.specs.declared.words.Asked.TheVariants.{Run, Check}
 
--- the words of a run on one thread
-abbrev pub IsRunWords : List (List ℕ) → Type 0
-IsRunWords words = words ≡ codes "run" ∷ codes "--workers" ∷ codes "0" ∷ []
-
--- the word of a check of a chart
-abbrev pub IsCheckWords : List (List ℕ) → Type 0
-IsCheckWords words = words ≡ codes "check" ∷ []
-
--- the words of either
-pub data IsCommand (words : List (List ℕ)) : Type 0 where
-  run : IsRunWords words → IsCommand words
-  check : IsCheckWords words → IsCommand words
-
--- the steps that a run may take
-abbrev pub step_budget : ℕ
-step_budget = STEP_BUDGET
-
--- what is read of a source: all that it has, or one byte more than a script may have
-abbrev pub script_read : List ℕ → List ℕ
-script_read all = take (SCRIPT_LIMIT + 1) all
-
--- all that it has, or one byte more than a chart may have
-abbrev pub chart_read : List ℕ → List ℕ
-chart_read all = take (CHART_TEXT_LIMIT + 1) all
-
--- bytes that are the report of a script's run: one history from the empty host, with all that is promised of it
-pub record Reports (text bytes : List ℕ) : Type 0 where
-  pub commands : List Command
+-- The status and the bytes of a script's run: they are those of one history from the empty host, with all that is promised
+-- of it.
+pub record Reports (script : Script) (budget : ℕ) (status : Status) (bytes : List ℕ) : Type 0 where
   pub history : List Entry
-  pub form : IsFirstForm text commands
-  pub promise : IsHistoryOf commands step_budget history
-  pub is : bytes ≡ report 0 (replay empty_host history) history (codes "quiet")
+  pub promise : IsHistoryOf script budget history
+  pub ends : status ≡ end_status (ready (replay empty_host history))
+  pub is : bytes
+      ≡ report 0 (replay empty_host history) history (end_word (ready (replay empty_host history)))
 
--- The bytes that go with a status, for these words and what the source has, where that is told; `faulted` says that
--- the source's count of faults rose.
-pub data Says (words : List (List ℕ)) (source : Option (List ℕ)) (faulted : Type 0) : ℕ → List ℕ → Type 0 where
-  other_words : (IsCommand words → ⊥) → Says words source faulted (code status.OtherWords) (codes "words\n")
-  read_fault : IsCommand words → faulted → Says words source faulted (code status.ReadFault) (codes "read\n")
-  no_script : (text : List ℕ) → IsRunWords words → IfSome source (λ all. text ≡ script_read all)
-      → ((cs : List Command) → IsFirstForm text cs → ⊥)
-      → Says words source faulted (code status.NotBuilt) (codes "not-built\n")
-  ran : (text bytes : List ℕ) → IsRunWords words → IfSome source (λ all. text ≡ script_read all) → Reports text bytes
-      → Says words source faulted (code status.Done) bytes
-  legal : (text : List ℕ) (chart : Chart) → IsCheckWords words → IfSome source (λ all. text ≡ chart_read all)
-      → legal_chart_of text ≡ Ok chart
-      → Says words source faulted (code status.Done) (line (codes "ok " ++ decimal (count_states chart)))
-  faulty : (text : List ℕ) (fault : ChartFault) → IsCheckWords words → IfSome source (λ all. text ≡ chart_read all)
+-- what was read of a source for what is asked, where the source tells what it has
+abbrev pub IsRead : Option Asked → Option (List ℕ) → List ℕ → Type 0
+IsRead asked source text = IfSome source (λ all. text ≡ take (most_read asked) all)
+
+-- The bytes that go with a status, for what is asked and what the source has, where that is told; `faulted` says that the
+-- source's count of faults rose.
+pub data Says (asked : Option Asked) (source : Option (List ℕ)) (faulted : Type 0) : Status → List ℕ → Type 0 where
+  other_words : asked ≡ None → Says asked source faulted status.OtherWords (codes "words\n")
+  read_fault : (what : Asked) → asked ≡ Some what → faulted → Says asked source faulted status.ReadFault (codes "read\n")
+  no_script : (budget : ℕ) (text : List ℕ) (fault : ScriptFault) → asked ≡ Some (Run budget) → IsRead asked source text
+      → script_of text ≡ Err fault
+      → Says asked source faulted status.BadScript (line (codes "script " ++ script_fault_text fault))
+  not_built : (budget : ℕ) (text : List ℕ) (script : Script) → asked ≡ Some (Run budget) → IsRead asked source text
+      → script_of text ≡ Ok script → IsTrue (script_invokes script)
+      → Says asked source faulted status.NotBuilt (codes "not-built\n")
+  ran : (budget : ℕ) (text : List ℕ) (script : Script) (status : Status) (bytes : List ℕ) → asked ≡ Some (Run budget)
+      → IsRead asked source text → script_of text ≡ Ok script → IsTrue (not (script_invokes script))
+      → Reports script budget status bytes → Says asked source faulted status bytes
+  legal : (text : List ℕ) (chart : Chart) → asked ≡ Some Check → IsRead asked source text → legal_chart_of text ≡ Ok chart
+      → Says asked source faulted status.Done (line (codes "ok " ++ decimal (count_states chart)))
+  faulty : (text : List ℕ) (fault : ChartFault) → asked ≡ Some Check → IsRead asked source text
       → legal_chart_of text ≡ Err fault
-      → Says words source faulted (code status.Faulty) (line (codes "chart " ++ fault_text fault))
+      → Says asked source faulted status.Faulty (line (codes "chart " ++ fault_text fault))
 
 -- these bytes are those of some status other than the two that say nothing of their own
-pub record Output (words : List (List ℕ)) (source : Option (List ℕ)) (faulted : Type 0) (text : List ℕ) : Type 0 where
-  pub status : ℕ
-  pub says : Says words source faulted status text
+pub record Output (asked : Option Asked) (source : Option (List ℕ)) (faulted : Type 0) (text : List ℕ) : Type 0 where
+  pub status : Status
+  pub says : Says asked source faulted status text

@@ -1,15 +1,15 @@
 -- The report of a run. This host's own rule.
-use Rattle.std.specs.Prelude.{ℕ, ◌+◌, ◌==◌, if◌then◌else◌, Option, option_and_then, unwrap_or, List, [], ◌∷◌, ◌++◌, length, decimal, codes}
+use Rattle.std.specs.Prelude.{ℕ, ◌+◌, ◌==◌, if◌then◌else◌, Option, Some, None, option_and_then, unwrap_or, List, [], ◌∷◌, ◌++◌, length, decimal, codes}
 use Rattle.std.specs.Option.{option_map_or}
 use Rattle.std.specs.List.{flat_map}
 use Rattle.sc_types.specs.declared.chart.Chart.{Chart}
 use Rattle.sc_types.specs.declared.chart.ChartFault.{ChartFault}
 use Rattle.sc_types.specs.declared.command.Refusal.{Refusal}
-use Rattle.sc_types.specs.declared.command.Refusal.TheVariants.{BadChart, NameTaken, NoChart, NoSession, Ended, TooLong, Idle, BadName}
+use Rattle.sc_types.specs.declared.command.Refusal.TheVariants.{BadChart, NameTaken, NoChart, NoSession, Ended, TooLong, ClockFull, Idle, BadName}
 use Rattle.sc_types.specs.declared.command.Reply.{Reply}
-use Rattle.sc_types.specs.declared.command.Reply.TheVariants.{Installed, Started, Posted, Stepped, Refused}
+use Rattle.sc_types.specs.declared.command.Reply.TheVariants.{Installed, Started, Posted, Ticked, Cancelled, Stepped, Refused}
 use Rattle.sc_types.specs.declared.history.Delivery.{Delivery}
-use Rattle.sc_types.specs.declared.history.Delivery.TheVariants.{Queued}
+use Rattle.sc_types.specs.declared.history.Delivery.TheVariants as delivery
 use Rattle.sc_types.specs.declared.history.Entry.{Entry}
 use Rattle.sc_types.specs.declared.history.LogLine.{LogLine}
 use Rattle.sc_types.specs.declared.history.Who.{Who}
@@ -19,12 +19,14 @@ use Rattle.sc_types.specs.declared.host.SessionImage.{SessionImage}
 use Rattle.sc_types.specs.declared.session.CueName.{CueName}
 use Rattle.sc_types.specs.declared.session.CueName.TheVariants.{Fresh, Resume, Cancel, External}
 use Rattle.sc_types.specs.declared.session.How.{How}
-use Rattle.sc_types.specs.declared.session.How.TheVariants.{Final, Cancelled, Runaway}
+use Rattle.sc_types.specs.declared.session.How.TheVariants as how
 use Rattle.sc_types.specs.declared.session.Phase.{Phase}
 use Rattle.sc_types.specs.declared.session.Phase.TheVariants as phase
 use Rattle.sc_types.specs.declared.value.Value.{Value}
 use Rattle.sc_types.specs.Values.{text_literal, value_text}
-use Rattle.sc_top.specs.Host.{chart_named}
+use Rattle.sc_core.specs.Hosts.{chart_named}
+use Rattle.sc_script.specs.Causes.{cause_number}
+use Rattle.sc_script.specs.declared.fault.ScriptFault.{ScriptFault}
 use Rattle.sc_top.specs.Lines.{command_text, line}
 use Rattle.sc_law.specs.Tree.{node_of, id_of}
 
@@ -46,10 +48,14 @@ abbrev pub fault_text : ChartFault → List ℕ
 fault_text f =
     decimal f.number ++ codes " " ++ path_text f.path ++ (if f.number == 6 then codes " " ++ f.member else [])
 
+-- the number of a line, and that of the first cause for which it says nothing
+abbrev pub script_fault_text : ScriptFault → List ℕ
+script_fault_text f = decimal f.line ++ codes " " ++ decimal (cause_number f.cause)
+
 abbrev pub how_text : How → List ℕ
-how_text (Final payload) = codes "final"
-how_text Cancelled = codes "cancelled"
-how_text Runaway = codes "runaway"
+how_text (how.Final payload) = codes "final"
+how_text how.Cancelled = codes "cancelled"
+how_text how.Runaway = codes "runaway"
 
 abbrev pub refusal_text : Refusal → List ℕ
 refusal_text (BadChart fault) = codes "1 bad-chart " ++ fault_text fault
@@ -58,6 +64,7 @@ refusal_text NoChart = codes "3 no-chart"
 refusal_text NoSession = codes "4 no-session"
 refusal_text (Ended how) = codes "5 ended " ++ how_text how
 refusal_text (TooLong which) = codes "6 too-long " ++ decimal which
+refusal_text ClockFull = codes "7 clock-full"
 refusal_text Idle = codes "8 idle"
 refusal_text BadName = codes "9 bad-name"
 
@@ -71,14 +78,27 @@ abbrev pub reply_text : Reply → List ℕ
 reply_text Installed = codes "installed"
 reply_text Started = codes "started"
 reply_text (Posted n) = codes "posted " ++ decimal n
+reply_text (Ticked count) = codes "ticked " ++ decimal count
+reply_text Cancelled = codes "cancelled"
 reply_text (Stepped cue) = codes "stepped " ++ cue_text cue
 reply_text (Refused why) = codes "refused " ++ refusal_text why
 
 abbrev pub log_text : LogLine → List ℕ
 log_text l = line (codes "> " ++ text_literal l.label ++ codes " " ++ value_text l.value)
 
+abbrev pub what_text : Delivery → List ℕ
+what_text (delivery.Queued n session) = codes "queued " ++ decimal n ++ codes " " ++ session
+what_text (delivery.Timed n due) = codes "timed " ++ decimal n ++ codes " " ++ decimal due
+what_text delivery.Unreachable = codes "unreachable"
+what_text delivery.Dropped = codes "dropped"
+what_text (delivery.Undone count) = codes "undone " ++ decimal count
+what_text (delivery.Born session) = codes "born " ++ session
+what_text delivery.Unborn = codes "unborn"
+what_text (delivery.Flagged session) = codes "flagged " ++ session
+what_text delivery.Nothing = codes "nothing"
+
 abbrev pub delivery_text : Delivery → List ℕ
-delivery_text (Queued n session) = line (codes "* queued " ++ decimal n ++ codes " " ++ session)
+delivery_text d = line (codes "* " ++ what_text d)
 
 -- an entry of a history, with its number: its command, the reply, the log lines and the deliveries
 abbrev pub entry_text : ℕ → Entry → List ℕ
@@ -109,6 +129,11 @@ phase_text g s phase.Running = live_text g s
 
 abbrev pub session_text : HostImage → SessionImage → List ℕ
 session_text g s = s.state.session ++ codes " " ++ s.state.chart ++ codes " " ++ phase_text g s s.state.phase
+
+-- the word for how a run ends, by the session that is ready then
+abbrev pub end_word : Option (List ℕ) → List ℕ
+end_word None = codes "quiet"
+end_word (Some session) = codes "budget"
 
 -- the report of a history: how many commands were journaled at the opening, the entries, the host at the end, and
 -- the word for how the run ended

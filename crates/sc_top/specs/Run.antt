@@ -1,6 +1,6 @@
--- The run of a script on one thread. This host's own rule.
-use Rattle.std.specs.Prelude.{ℕ, ◌≡◌, ◌≤◌, ◌==◌, Bool, true, false, Option, Some, None, IsTrue, List, [], ◌∷◌, map, filter, count_by}
-use Rattle.std.specs.List.{list_all}
+-- The run of a script on one thread, and whose commands a history has. This host's own rule.
+use Rattle.std.specs.Prelude.{ℕ, ◌+◌, ◌≡◌, ◌≢◌, ◌≤◌, ◌==◌, ◌&&◌, Bool, true, false, not, Option, Some, None, IsTrue, List, [], ◌∷◌, ◌++◌, map, filter, count_by, slice_get, unwrap_or}
+use Rattle.std.specs.List.{list_all, list_any}
 use Rattle.std.proofs.Common.{zero, suc}
 use Rattle.sc_types.specs.declared.command.Command.{Command}
 use Rattle.sc_types.specs.declared.command.Command.TheVariants.{Step}
@@ -10,25 +10,43 @@ use Rattle.sc_types.specs.declared.history.Entry.{Entry}
 use Rattle.sc_types.specs.declared.history.Who.{Who}
 use Rattle.sc_types.specs.declared.history.Who.TheVariants.{Client, Worker}
 use Rattle.sc_types.specs.declared.host.HostImage.{HostImage}
-use Rattle.sc_top.specs.Host.{answer, ready, empty_host}
-use Rattle.sc_top.specs.History.{IsLegal, IsAtMostOnce, Tells, replay}
+use Rattle.sc_script.specs.declared.script.Script.{Script}
+use Rattle.sc_core.specs.Commands.{answer}
+use Rattle.sc_core.specs.Cues.{ready}
+use Rattle.sc_core.specs.Histories.{IsLegal, IsAtMostOnce, Tells, replay}
+use Rattle.sc_core.specs.Hosts.{empty_host}
+
+-- a command, and the number of the client that makes it
+abbrev pub Made : Type 0
+Made = ℕ × Command
+
+abbrev pub of_client : ℕ → List Command → List Made
+of_client n cs = map (λ (c : Command). (n, c)) cs
+
+abbrev pub of_clients : ℕ → List (List Command) → List Made
+of_clients n [] = []
+of_clients n (cs ∷ more) = of_client n cs ++ of_clients (n + 1) more
+
+-- one thread makes the commands of the set-up, which is client 0, and then those of one client after another
+abbrev pub in_turn : Script → List Made
+in_turn s = of_client 0 s.setup ++ of_clients 1 s.clients
 
 -- what comes next: a step of a session, a command of the script, or nothing more
 pub data Next : Type 0 where
   steps : List ℕ → Next
-  makes : Command → List Command → Next
+  makes : Made → List Made → Next
   over : Next
 
-abbrev pub of_script : List Command → Next
+abbrev pub of_script : List Made → Next
 of_script [] = over
 of_script (c ∷ cs) = makes c cs
 
-abbrev pub of_ready : Option (List ℕ) → List Command → Next
+abbrev pub of_ready : Option (List ℕ) → List Made → Next
 of_ready None cs = of_script cs
 of_ready (Some session) cs = steps session
 
 -- the ready session that was started first steps, while steps are left; else the script goes on
-abbrev pub next : HostImage → List Command → ℕ → Next
+abbrev pub next : HostImage → List Made → ℕ → Next
 next g cs zero = of_script cs
 next g cs (suc budget) = of_ready (ready g) cs
 
@@ -43,14 +61,15 @@ pred zero = zero
 pred (suc n) = n
 
 -- the first entry is what comes next, and the others follow from the host, the script and the budget that it leaves
-abbrev pub Continues : Next → HostImage → List Command → ℕ → Entry → (HostImage → List Command → ℕ → Type 0) → Type 0
+abbrev pub Continues : Next → HostImage → List Made → ℕ → Entry → (HostImage → List Made → ℕ → Type 0) → Type 0
 Continues (steps session) g cs budget e Rest =
     Enters g Worker (Step session) e × Rest (answer g e.command).host cs (pred budget)
-Continues (makes c rest) g cs budget e Rest = Enters g (Client 0) c e × Rest (answer g e.command).host rest budget
+Continues (makes c rest) g cs budget e Rest =
+    Enters g (Client c.0) c.1 e × Rest (answer g e.command).host rest budget
 Continues over g cs budget e Rest = ⊥
 
--- the run of the commands, all of client 0, with at most so many steps
-abbrev pub IsRun : HostImage → List Command → ℕ → List Entry → Type 0
+-- the run of the commands, with at most so many steps
+abbrev pub IsRun : HostImage → List Made → ℕ → List Entry → Type 0
 IsRun g cs budget [] = next g cs budget ≡ over
 IsRun g cs budget (e ∷ es) = Continues (next g cs budget) g cs budget e (λ g' cs' budget'. IsRun g' cs' budget' es)
 
@@ -64,37 +83,52 @@ is_of who other = false
 abbrev pub commands_of : Who → List Entry → List Command
 commands_of who history = map (λ (e : Entry). e.command) (filter (λ (e : Entry). is_of who e.who) history)
 
+-- the commands that a script has for a client
+abbrev pub list_of : Script → ℕ → List Command
+list_of s zero = s.setup
+list_of s (suc n) = unwrap_or (slice_get s.clients n) []
+
 abbrev pub is_accepted_step : Command → Reply → Bool
 is_accepted_step (Step session) (Stepped cue) = true
 is_accepted_step c reply = false
 
--- an entry is of the set-up's client, or it is an accepted step of a worker
+-- an entry is of a client, or it is an accepted step of a worker
 abbrev pub served_by : Who → Command → Reply → Bool
 served_by Worker c reply = is_accepted_step c reply
-served_by (Client n) c reply = n == 0
+served_by (Client n) c reply = true
 
 abbrev pub is_served : Entry → Bool
 is_served e = served_by e.who e.command e.reply
 
--- each command of the script is made once, in order, and workers make accepted steps alone
-pub record Serves (cs : List Command) (history : List Entry) : Type 0 where
-  pub commands : commands_of (Client 0) history ≡ cs
+abbrev pub is_setup : Entry → Bool
+is_setup e = is_of (Client 0) e.who
+
+abbrev pub is_later : Who → Bool
+is_later Worker = false
+is_later (Client n) = not (n == 0)
+
+-- no entry of the set-up stands behind one of another client
+abbrev pub is_setup_first : List Entry → Bool
+is_setup_first [] = true
+is_setup_first (e ∷ es) = not (is_later e.who && list_any is_setup es) && is_setup_first es
+
+-- each client's commands are made once and in order, those of the set-up before all others, and workers make accepted
+-- steps alone
+pub record Serves (s : Script) (history : List Entry) : Type 0 where
+  pub lists : (n : ℕ) → commands_of (Client n) history ≡ list_of s n
+  pub setup : IsTrue (is_setup_first history)
   pub others : IsTrue (list_all is_served history)
 
 abbrev pub accepted_steps : List Entry → ℕ
 accepted_steps history = count_by (λ (e : Entry). is_accepted_step e.command e.reply) history
 
--- a script has no steps of its own
-abbrev pub IsNoStep : Command → Type 0
-IsNoStep (Step session) = ⊥
-IsNoStep c = Unit {0}
-
--- The promise for a script of one client: what is run from the empty host is one legal history; each accepted
--- event is consumed at most once; the script is served; at the end no session is ready.
-pub record IsHistoryOf (cs : List Command) (budget : ℕ) (history : List Entry) : Type 0 where
+-- The promise for a script that one thread runs from the empty host, with at most so many steps: what was done is one
+-- legal history; each accepted event is consumed at most once; the script is served; and where a session is ready at the
+-- end, the steps are used up.
+pub record IsHistoryOf (s : Script) (budget : ℕ) (history : List Entry) : Type 0 where
   pub legal : IsLegal empty_host history
   pub once : IsAtMostOnce history
-  pub served : Serves cs history
-  pub quiet : ready (replay empty_host history) ≡ None
+  pub served : Serves s history
   pub within : accepted_steps history ≤ budget
-  pub run : IsRun empty_host cs budget history
+  pub spent : ready (replay empty_host history) ≢ None → accepted_steps history ≡ budget
+  pub run : IsRun empty_host (in_turn s) budget history

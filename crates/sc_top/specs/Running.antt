@@ -3,9 +3,10 @@ use Rattle.std.specs.Prelude.{ℕ, ◌≡◌, List, [], ◌∷◌, ◌++◌}
 use Rattle.sc_types.specs.declared.command.Command.{Command}
 use Rattle.sc_types.specs.declared.history.Entry.{Entry}
 use Rattle.sc_types.specs.declared.history.Who.{Who}
-use Rattle.sc_top.specs.Host.{answer, empty_host}
-use Rattle.sc_top.specs.History.{replay}
-use Rattle.sc_top.specs.Run.{of_script, next, Enters, IsRun}
+use Rattle.sc_core.specs.Commands.{answer}
+use Rattle.sc_core.specs.Histories.{replay}
+use Rattle.sc_core.specs.Hosts.{empty_host}
+use Rattle.sc_top.specs.Run.{Made, of_script, next, Enters, IsRun}
 use Rattle.sc_top.specs.Held.{IsHeld, Counts}
 use Rattle.sc_top.specs.declared.run.Run.{Run}
 
@@ -21,7 +22,7 @@ pub record Makes (old new : Run) (who : Who) (c : Command) : Type 0 where
 
 -- Entries were added; whatever goes on from there as a run of the commands `after` goes on from the start as a run
 -- of the commands `before`.
-pub record Goes (old new : Run) (before after : List Command) : Type 0 where
+pub record Goes (old new : Run) (before after : List Made) : Type 0 where
   pub added : List Entry
   pub history : new.history ≡ old.history ++ added
   pub host : new.host.image ≡ replay old.host.image added
@@ -31,16 +32,16 @@ pub record Goes (old new : Run) (before after : List Command) : Type 0 where
 
 -- neither a session nor a budget is left to step with: the script goes on
 abbrev pub HasStepped : Run → Type 0
-HasStepped r = (cs : List Command) → next r.host.image cs r.left ≡ of_script cs
+HasStepped r = (cs : List Made) → next r.host.image cs r.left ≡ of_script cs
 
 -- the run of the commands from the empty host has come so far, and these are left
-pub record IsUnderWay (r : Run) (budget : ℕ) (all left : List Command) : Type 0 where
+pub record IsUnderWay (r : Run) (budget : ℕ) (all left : List Made) : Type 0 where
   pub held : IsHeld r.host
   pub host : r.host.image ≡ replay empty_host r.history
   pub runs : (rest : List Entry) → IsRun r.host.image left r.left rest → IsRun empty_host all budget (r.history ++ rest)
 
 -- the run of the commands is done
-pub record HasRun (r : Run) (budget : ℕ) (all : List Command) : Type 0 where
+pub record HasRun (r : Run) (budget : ℕ) (all : List Made) : Type 0 where
   pub held : IsHeld r.host
   pub host : r.host.image ≡ replay empty_host r.history
   pub run : IsRun empty_host all budget r.history

@@ -1,10 +1,12 @@
-ghost use Rattle.std.specs.Prelude.{◌≡◌, ◌↔◌, Err, IfOk, IsTrue, Ok, not};
+ghost use Rattle.std.specs.Prelude.{◌≡◌, Err, IfOk, Ok};
+ghost use Rattle.std.specs.List.{list_any};
 ghost use Rattle.sc_types.specs.declared.chart.ChartFault.{ChartFault};
 ghost use Rattle.sc_law.specs.LegalCharts.{legal_chart_of};
-ghost use Rattle.sc_top.specs.AloneCharts.{IsAloneChart, has_reaching, reaches_out};
+ghost use Rattle.sc_top.specs.InvokingCharts.{has_invoke, invokes, is_invoke, is_invoking, script_invokes};
 
 use sc_chart_json::read_chart;
-use sc_types::{ChartRefusal, NoMemory, Node, Tag};
+use sc_script::Script;
+use sc_types::{ChartRefusal, Command, NoMemory, Node, Tag};
 use sc_valid::{LegalChart, validate};
 use std::alloc::Global;
 
@@ -19,42 +21,69 @@ pub(crate) fn read_legal_chart(alloc: Global, text: &[u8]) -> Result<LegalChart,
     }
 }
 
-/// Whether a text spells a chart that this version runs: a legal one without an element that reaches past its session.
-#[tactic(auto, using(crate::proofs::AloneLemmas::never_alone))]
-pub(crate) fn is_alone_chart(alloc: Global, text: &[u8]) -> Result<bool, NoMemory>
-    ensures { IfOk result (λ alone. IsTrue alone ↔ IsAloneChart text.now) }
+/// Whether a script installs a legal chart with an `<invoke>`.
+pub(crate) fn script_invokes(alloc: Global, script: &Script) -> Result<bool, NoMemory>
+    ensures { IfOk result (λ found. found ≡ script_invokes script.now) }
+{
+    if any_invokes(alloc, script.setup.slice())? {
+        return Ok(true);
+    }
+    for commands in script.clients.slice() {
+        if any_invokes(alloc, commands.slice())? {
+            return Ok(true);
+        }
+    }
+    Ok(false)
+}
+
+fn any_invokes(alloc: Global, commands: &[Command]) -> Result<bool, NoMemory>
+    ensures { IfOk result (λ found. found ≡ list_any invokes commands.now) }
+{
+    for command in commands {
+        if invokes(alloc, command)? {
+            return Ok(true);
+        }
+    }
+    Ok(false)
+}
+
+fn invokes(alloc: Global, command: &Command) -> Result<bool, NoMemory>
+    ensures { IfOk result (λ found. found ≡ invokes command.now) }
+{
+    match command {
+        Command::Install { name: _, chart } => is_invoking(alloc, chart.slice()),
+        _ => Ok(false),
+    }
+}
+
+fn is_invoking(alloc: Global, text: &[u8]) -> Result<bool, NoMemory>
+    ensures { IfOk result (λ found. found ≡ is_invoking (legal_chart_of text.now)) }
 {
     match read_legal_chart(alloc, text) {
-        Ok(chart) => Ok(is_alone(&chart)),
+        Ok(chart) => Ok(has_invoke(&chart.chart().root)),
         Err(ChartRefusal::Fault(_)) => Ok(false),
         Err(ChartRefusal::NoMemory) => Err(NoMemory),
     }
 }
 
-fn is_alone(chart: &LegalChart) -> bool
-    ensures { result ≡ not (has_reaching chart.now.root) }
+/// Whether an element, or one below it, is an `<invoke>`.
+#[cycle(invoking)]
+fn has_invoke(node: &Node) -> bool
+    ensures { result ≡ has_invoke node.now }
 {
-    !has_reaching(&chart.chart().root)
-}
-
-/// Whether an element, or one below it, reaches past its own session: `<invoke>`, `<send>` or `<cancel>`.
-#[cycle(reaching)]
-fn has_reaching(node: &Node) -> bool
-    ensures { result ≡ has_reaching node.now }
-{
-    if reaches_out(node.tag) {
+    if is_invoke(node.tag) {
         return true;
     }
     for kid in node.kids.slice() {
-        if has_reaching(kid) {
+        if has_invoke(kid) {
             return true;
         }
     }
     false
 }
 
-fn reaches_out(tag: Tag) -> bool
-    ensures { result ≡ reaches_out tag }
+fn is_invoke(tag: Tag) -> bool
+    ensures { result ≡ is_invoke tag }
 {
-    matches!(tag, Tag::Invoke | Tag::Send | Tag::Cancel)
+    matches!(tag, Tag::Invoke)
 }

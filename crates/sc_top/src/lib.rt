@@ -9,8 +9,9 @@ mod program;
 mod report;
 mod run;
 mod saying;
-mod script_reader;
 mod status;
+mod words;
 
 pub use program::top;
 pub use status::Status;
+pub use words::{Asked, STEP_BUDGET, STEP_LIMIT};

@@ -1,6 +1,6 @@
 ghost use Rattle.std.specs.Prelude.{◌≡◌, ◌++◌, OnOk, IfOk, decimal, length, codes};
 ghost use Rattle.sc_top.specs.Lines.{line};
-ghost use Rattle.sc_top.specs.Report.{report};
+ghost use Rattle.sc_top.specs.Report.{report, script_fault_text};
 ghost use Rattle.sc_top.specs.Held.{IsHeld};
 
 mod entries;
@@ -13,6 +13,7 @@ use crate::report::entries::put_entries;
 use crate::report::lines::put_counted;
 use crate::report::sessions::put_sessions;
 use sc_base::{Bytes, NoMemory, TextWriter};
+use sc_script::ScriptFault;
 use sc_types::{Entry, HostImage};
 use std::alloc::Global;
 
@@ -36,6 +37,19 @@ pub(crate) fn report_of(
     put_clock(&mut out, &host.image)?;
     out.text("end ")?;
     out.bytes(end)?;
+    out.end_line()?;
+    Ok(out.into_bytes())
+}
+
+/// The line of a script's first fault.
+pub(crate) fn script_fault_line(alloc: Global, fault: &ScriptFault) -> Result<Bytes, NoMemory>
+    ensures { IfOk result (λ text. text ≡ line (codes "script " ++ script_fault_text fault.now)) }
+{
+    let mut out = TextWriter::new(alloc);
+    out.text("script ")?;
+    out.number(u128::from(fault.line))?;
+    out.text(" ")?;
+    out.number(u128::from(fault.cause.number()))?;
     out.end_line()?;
     Ok(out.into_bytes())
 }

@@ -1,12 +1,17 @@
-ghost use Rattle.std.specs.Prelude.{◌≡◌, ◌+◌, ◌^◌, ◌<◌, ◌≤◌, [], Some, List, IfOk, OnOk, length};
-ghost use Rattle.sc_types.specs.declared.command.Command.{Command};
-ghost use Rattle.sc_top.specs.Host.{empty_host, ready};
+ghost use Rattle.std.specs.Prelude.{◌≡◌, ◌++◌, ◌<◌, ◌≤◌, ◌^◌, [], Some, List, IfOk, OnOk};
+ghost use Rattle.sc_core.specs.Cues.{ready};
+ghost use Rattle.sc_core.specs.Hosts.{empty_host};
 ghost use Rattle.sc_top.specs.Held.{IsHeld};
+ghost use Rattle.sc_top.specs.Run.{Made, in_turn, of_client, of_clients};
 ghost use Rattle.sc_top.specs.Running.{HasRun};
 
 use crate::host::Host;
-use sc_types::{Command, Entry, NoMemory, Plain, Sequence, Who};
+use sc_script::Script;
+use sc_types::{Command, Entry, NoMemory, Sequence, Who};
 use std::alloc::Global;
+
+/// The most commands that a host takes; a run of more is larger than any memory.
+const COMMAND_LIMIT: u64 = 1 << 48;
 
 /// A run under way: the host, the history so far, and how many steps are left.
 #[derive(Drop)]
@@ -18,45 +23,6 @@ pub struct Run {
 
 impl Run {
     ghost use Rattle.sc_top.specs.Running.{Makes, Goes, HasStepped};
-
-    /// Makes a command, and enters what the host answered.
-    fn make(&mut self, alloc: Global, who: Who, command: Command) -> Result<(), NoMemory>
-        requires held { IsHeld self.old.host }
-        requires room { self.old.host.image.commands + 1 < 2 ^ 64 }
-        requires numbers { self.old.host.image.events + 1 < 2 ^ 128 }
-        ensures { OnOk result (Makes self.old self.new who command) }
-    {
-        let answered = self.host.answer(alloc, &command)?;
-        self.history.push(Entry {
-            who,
-            command,
-            reply: answered.reply,
-            logs: answered.logs,
-            sent: answered.sent,
-        })
-    }
-
-    /// Lets the ready session that was started first step, until none is ready or no step is left.
-    fn step_all(&mut self, alloc: Global) -> Result<(), NoMemory>
-        requires held { IsHeld self.old.host }
-        requires room { self.old.host.image.commands + self.old.left < 2 ^ 63 }
-        requires numbers { self.old.host.image.events + self.old.left < 2 ^ 63 }
-        ensures goes { OnOk result ((cs : List Command) → Goes self.old self.new cs cs) }
-        ensures stepped { OnOk result (HasStepped self.new) }
-        ensures commands { OnOk result
-            (self.new.host.image.commands + self.new.left ≤ self.old.host.image.commands + self.old.left) }
-        ensures events { OnOk result
-            (self.new.host.image.events + self.new.left ≤ self.old.host.image.events + self.old.left) }
-    {
-        while self.left > 0 {
-            let Some(session) = self.host.ready()? else {
-                return Ok(());
-            };
-            self.left -= 1;
-            self.make(alloc, Who::Worker, Command::Step { session })?;
-        }
-        Ok(())
-    }
 
     fn new(alloc: Global, budget: u64) -> Run
         ensures image { result.host.image ≡ empty_host }
@@ -70,19 +36,88 @@ impl Run {
             left: budget,
         }
     }
+
+    /// Makes a command, and enters what the host answered.
+    fn make(&mut self, alloc: Global, who: Who, command: Command) -> Result<(), NoMemory>
+        requires held { IsHeld self.old.host }
+        ensures { OnOk result (Makes self.old self.new who command) }
+    {
+        if self.host.image.commands >= COMMAND_LIMIT {
+            return Err(NoMemory);
+        }
+        let answered = self.host.answer(alloc, &command)?;
+        self.history.push(Entry {
+            who,
+            command,
+            reply: answered.reply,
+            logs: answered.logs,
+            sent: answered.sent,
+        })
+    }
+
+    /// Lets the ready session that was started first step, until none is ready or no step is left.
+    fn step_all(&mut self, alloc: Global) -> Result<(), NoMemory>
+        requires held { IsHeld self.old.host }
+        ensures goes { OnOk result ((cs : List Made) → Goes self.old self.new cs cs) }
+        ensures stepped { OnOk result (HasStepped self.new) }
+    {
+        while self.left > 0 {
+            let Some(session) = self.host.ready()? else {
+                return Ok(());
+            };
+            self.left -= 1;
+            self.make(alloc, Who::Worker, Command::Step { session })?;
+        }
+        Ok(())
+    }
+
+    /// Makes the commands of a client one after another, with the steps that are ready behind each.
+    fn make_all(
+        &mut self,
+        alloc: Global,
+        client: u32,
+        commands: Sequence<Command>,
+    ) -> Result<(), NoMemory>
+        requires held { IsHeld self.old.host }
+        requires stepped { HasStepped self.old }
+        ensures goes { OnOk result ((cs : List Made) → Goes self.old self.new (of_client client commands ++ cs) cs) }
+        ensures stepped { OnOk result (HasStepped self.new) }
+    {
+        for command in commands.into_vec() {
+            self.make(alloc, Who::Client(client), command)?;
+            self.step_all(alloc)?;
+        }
+        Ok(())
+    }
+
+    /// Makes the commands of one client after another, which are numbered from 1.
+    fn make_clients(
+        &mut self,
+        alloc: Global,
+        clients: Sequence<Sequence<Command>>,
+    ) -> Result<(), NoMemory>
+        requires held { IsHeld self.old.host }
+        requires stepped { HasStepped self.old }
+        ensures goes { OnOk result ((cs : List Made) → Goes self.old self.new (of_clients 1 clients ++ cs) cs) }
+        ensures stepped { OnOk result (HasStepped self.new) }
+    {
+        let mut client = 0u32;
+        for commands in clients.into_vec() {
+            client = client.checked_add(1).ok_or(NoMemory)?;
+            self.make_all(alloc, client, commands)?;
+        }
+        Ok(())
+    }
 }
 
-/// Runs the commands of client 0 on one thread, with at most so many steps.
-pub(crate) fn run_script(alloc: Global, commands: &[Command], budget: u64) -> Result<Run, NoMemory>
-    requires few { length commands.now < 2 ^ 62 }
-    requires steps { budget < 2 ^ 62 }
-    ensures { IfOk result (λ r. HasRun r budget commands.now) }
+/// Runs a script on one thread, with at most so many steps: the commands of the set-up, and then those of one client
+/// after another.
+pub(crate) fn run_script(alloc: Global, script: Script, budget: u64) -> Result<Run, NoMemory>
+    ensures { IfOk result (λ r. HasRun r budget (in_turn script)) }
 {
     let mut run = Run::new(alloc, budget);
     run.step_all(alloc)?;
-    for command in commands {
-        run.make(alloc, Who::Client(0), command.copy()?)?;
-        run.step_all(alloc)?;
-    }
+    run.make_all(alloc, 0, script.setup)?;
+    run.make_clients(alloc, script.clients)?;
     Ok(run)
 }

@@ -11,10 +11,14 @@ pub(crate) enum Saying {
     OtherWords,
     /// The source failed.
     ReadFault,
-    /// The text is no script of the first form.
-    NoScript,
-    /// A report, or that a text is a chart.
+    /// The first fault of a script's text.
+    BadScript(Bytes),
+    /// The script installs a chart that this version does not run.
+    NotBuilt,
+    /// A report of a run after which no session is ready, or that a text is a chart.
     Done(Bytes),
+    /// A report of a run whose steps are used up.
+    Spent(Bytes),
     /// The first fault of a chart's text.
     Faulty(Bytes),
 }
@@ -27,8 +31,10 @@ impl Saying {
         match self {
             Saying::OtherWords => Status::OtherWords,
             Saying::ReadFault => Status::ReadFault,
-            Saying::NoScript => Status::NotBuilt,
+            Saying::BadScript(_) => Status::BadScript,
+            Saying::NotBuilt => Status::NotBuilt,
             Saying::Done(_) => Status::Done,
+            Saying::Spent(_) => Status::Budget,
             Saying::Faulty(_) => Status::Faulty,
         }
     }
@@ -39,8 +45,10 @@ impl Saying {
         match self {
             Saying::OtherWords => b"words\n",
             Saying::ReadFault => b"read\n",
-            Saying::NoScript => b"not-built\n",
+            Saying::BadScript(text) => text.slice(),
+            Saying::NotBuilt => b"not-built\n",
             Saying::Done(text) => text.slice(),
+            Saying::Spent(text) => text.slice(),
             Saying::Faulty(text) => text.slice(),
         }
     }

@@ -7,6 +7,8 @@ pub enum Status {
     Done,
     /// The words after the program's name are no command.
     OtherWords,
+    /// The text spells no script.
+    BadScript,
     /// The text spells no legal chart.
     Faulty,
     /// The source failed.
@@ -15,7 +17,9 @@ pub enum Status {
     WriteFault,
     /// Nothing was written.
     OutOfMemory,
-    /// The text is no script of the form that this program runs.
+    /// The steps of a run were used up, and a session is ready.
+    Budget,
+    /// The script installs a chart that this version does not run.
     NotBuilt,
 }
 
@@ -27,10 +31,12 @@ impl Status {
         match self {
             Status::Done => 0,
             Status::OtherWords => 1,
+            Status::BadScript => 2,
             Status::Faulty => 3,
             Status::ReadFault => 4,
             Status::WriteFault => 5,
             Status::OutOfMemory => 7,
+            Status::Budget => 8,
             Status::NotBuilt => 12,
         }
     }

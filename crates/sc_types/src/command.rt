@@ -24,6 +24,14 @@ pub enum Command {
         event: Word,
         pairs: PairList,
     },
+    /// Advance the clock by so many milliseconds, and fire the sends that come due.
+    Tick {
+        ticks: u64,
+    },
+    /// Cancel a session: its next turn ends it.
+    Cancel {
+        session: Word,
+    },
     /// Let a session take the turn of its cue.
     Step {
         session: Word,
@@ -37,6 +45,10 @@ pub enum Reply {
     Started,
     /// Queued under this number.
     Posted(u128),
+    /// How many sends came due and were taken out.
+    Ticked(u64),
+    /// The session is flagged.
+    Cancelled,
     Stepped(CueName),
     Refused(Refusal),
 }
@@ -55,6 +67,8 @@ pub enum Refusal {
     /// A limit is passed: 1 the session's name, 2 the chart's name, 3 the event's name, 4 the pairs, 5 their
     /// weight.
     TooLong(u8),
+    /// The clock would pass its last value.
+    ClockFull,
     /// The session has no cue.
     Idle,
     /// A name that only an invoked session may have.

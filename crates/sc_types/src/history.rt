@@ -11,11 +11,27 @@ pub enum Who {
     Worker,
 }
 
-/// What became of an effect of a step.
+/// What became of an effect of a step, or of a send that came due.
 #[derive(Clone, Debug, Drop, PartialEq, Eq)]
 pub enum Delivery {
     /// Put into a session's external queue under this number.
     Queued { number: u128, session: Word },
+    /// Kept until its due time, in milliseconds of the host's clock, under this number of a send.
+    Timed { number: u64, due: u64 },
+    /// No such session takes events; the sender hears of it by `error.communication`.
+    Unreachable,
+    /// Given up without a word to the sender.
+    Dropped,
+    /// So many pending sends were dropped.
+    Undone(u64),
+    /// The child session was started.
+    Born(Word),
+    /// The child session was not started.
+    Unborn,
+    /// The child session is to be cancelled.
+    Flagged(Word),
+    /// The child session has ended before.
+    Nothing,
 }
 
 /// What a `<log>` wrote.

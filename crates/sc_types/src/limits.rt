@@ -37,3 +37,21 @@ pub const EXPRESSION_LEVEL_LIMIT: u32 = 256;
 
 /// The longest delay, in milliseconds.
 pub const DELAY_LIMIT: u64 = 1_000_000_000_000;
+
+/// The last value of the host's clock, in milliseconds.
+pub const CLOCK_LIMIT: u64 = 1_000_000_000_000_000;
+
+/// The most pairs of a post.
+pub const PAIR_LIMIT: usize = 64;
+
+/// The most that the pairs of a post may weigh together, about their bytes in memory.
+pub const POST_WEIGHT_LIMIT: u64 = 1_048_576;
+
+/// The most sessions that invoke one another in a row.
+pub const INVOKE_DEPTH_LIMIT: u32 = 16;
+
+/// The most bytes of the text of a script.
+pub const SCRIPT_TEXT_LIMIT: usize = 67_108_864;
+
+/// The most clients of a script.
+pub const CLIENT_LIMIT: u32 = 64;

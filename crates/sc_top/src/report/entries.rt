@@ -1,11 +1,11 @@
 ghost use Rattle.std.specs.Prelude.{◌≡◌, ◌+◌, ◌++◌, OnOk, decimal, codes};
 ghost use Rattle.std.specs.List.{flat_map};
 ghost use Rattle.sc_top.specs.Lines.{line, command_text};
-ghost use Rattle.sc_top.specs.Report.{who_text, reply_text, log_text, delivery_text, entry_text, entries_text};
+ghost use Rattle.sc_top.specs.Report.{who_text, reply_text, log_text, delivery_text, entry_text, entries_text, what_text};
 
 use crate::report::lines::put_command;
 use crate::report::replies::{put_reply, put_who};
-use sc_base::{NoMemory, TextWriter};
+use sc_base::{NoMemory, TextWriter, Word};
 use sc_expr::{put_text, put_value};
 use sc_types::{Command, Delivery, Entry, LogLine, Reply, Who};
 
@@ -28,18 +28,57 @@ fn put_logs(out: &mut TextWriter, logs: &[LogLine]) -> Result<(), NoMemory>
     Ok(())
 }
 
+/// A word, and the name of a session behind it.
+fn put_session(out: &mut TextWriter, word: &[u8], session: &Word) -> Result<(), NoMemory>
+    ensures { OnOk result (out.new ≡ out.old ++ word.now ++ session.now) }
+{
+    out.bytes(word)?;
+    out.bytes(session.bytes())
+}
+
+/// A word, and two things behind it with a space between.
+fn put_timed(out: &mut TextWriter, number: u64, due: u64) -> Result<(), NoMemory>
+    ensures { OnOk result (out.new ≡ out.old ++ codes "timed " ++ decimal number ++ codes " " ++ decimal due) }
+{
+    out.text("timed ")?;
+    out.number(u128::from(number))?;
+    out.text(" ")?;
+    out.number(u128::from(due))
+}
+
+fn put_queued(out: &mut TextWriter, number: u128, session: &Word) -> Result<(), NoMemory>
+    ensures { OnOk result (out.new ≡ out.old ++ codes "queued " ++ decimal number ++ codes " " ++ session.now) }
+{
+    out.text("queued ")?;
+    out.number(number)?;
+    put_session(out, b" ", session)
+}
+
+fn put_what(out: &mut TextWriter, delivery: &Delivery) -> Result<(), NoMemory>
+    ensures { OnOk result (out.new ≡ out.old ++ what_text delivery.now) }
+{
+    match delivery {
+        Delivery::Queued { number, session } => put_queued(out, *number, session),
+        Delivery::Timed { number, due } => put_timed(out, *number, *due),
+        Delivery::Unreachable => out.text("unreachable"),
+        Delivery::Dropped => out.text("dropped"),
+        Delivery::Undone(count) => {
+            out.text("undone ")?;
+            out.number(u128::from(*count))
+        }
+        Delivery::Born(session) => put_session(out, b"born ", session),
+        Delivery::Unborn => out.text("unborn"),
+        Delivery::Flagged(session) => put_session(out, b"flagged ", session),
+        Delivery::Nothing => out.text("nothing"),
+    }
+}
+
 fn put_delivery(out: &mut TextWriter, delivery: &Delivery) -> Result<(), NoMemory>
     ensures { OnOk result (out.new ≡ out.old ++ delivery_text delivery.now) }
 {
-    match delivery {
-        Delivery::Queued { number, session } => {
-            out.text("* queued ")?;
-            out.number(*number)?;
-            out.text(" ")?;
-            out.bytes(session.bytes())?;
-            out.end_line()
-        }
-    }
+    out.text("* ")?;
+    put_what(out, delivery)?;
+    out.end_line()
 }
 
 fn put_deliveries(out: &mut TextWriter, sent: &[Delivery]) -> Result<(), NoMemory>

@@ -63,6 +63,14 @@ pub(crate) fn put_command(out: &mut TextWriter, command: &Command) -> Result<(),
             out.bytes(event.bytes())?;
             put_pairs(out, pairs.slice())
         }
+        Command::Tick { ticks } => {
+            out.text("tick ")?;
+            out.number(u128::from(*ticks))
+        }
+        Command::Cancel { session } => {
+            out.text("cancel ")?;
+            out.bytes(session.bytes())
+        }
         Command::Step { session } => {
             out.text("step ")?;
             out.bytes(session.bytes())

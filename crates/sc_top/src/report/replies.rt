@@ -80,6 +80,7 @@ fn put_refusal(out: &mut TextWriter, refusal: &Refusal) -> Result<(), NoMemory>
             out.text("6 too-long ")?;
             out.number(u128::from(*which))
         }
+        Refusal::ClockFull => out.text("7 clock-full"),
         Refusal::Idle => out.text("8 idle"),
         Refusal::BadName => out.text("9 bad-name"),
     }
@@ -109,6 +110,11 @@ pub(crate) fn put_reply(out: &mut TextWriter, reply: &Reply) -> Result<(), NoMem
             out.text("posted ")?;
             out.number(*number)
         }
+        Reply::Ticked(count) => {
+            out.text("ticked ")?;
+            out.number(u128::from(*count))
+        }
+        Reply::Cancelled => out.text("cancelled"),
         Reply::Stepped(cue) => {
             out.text("stepped ")?;
             put_cue(out, *cue)

@@ -1,6 +1,6 @@
 ghost use Rattle.std.specs.Prelude.{◌≡◌, ◌++◌, IsTrue, OnOk, codes};
 ghost use Rattle.std.specs.List.{flat_map};
-ghost use Rattle.sc_top.specs.Host.{chart_named, has_chart};
+ghost use Rattle.sc_core.specs.Hosts.{chart_named, has_chart};
 ghost use Rattle.sc_top.specs.Lines.{line};
 ghost use Rattle.sc_top.specs.Report.{state_text, datum_text, live_text, phase_text, session_text};
 ghost use Rattle.sc_top.specs.Held.{IsHeld};

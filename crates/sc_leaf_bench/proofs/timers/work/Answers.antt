@@ -15,7 +15,8 @@ add-requires-in-loop-number-2-clause-newest c =
     let n = c.loop-number-2.number in
     let Below : List TimerImage → Type 0 = λ ss. AreBelow n ss in
     rw c.reserve-in-loop-number-2.ensures.sends
-    (below-rest n c.in_ok-taken.taken c.take_due.new.self.sends (subst Below c.in_ok-taken.ensures.first.0 c.loop-number-2.invariant))
+    (below-rest n c.in_ok-taken.taken c.take_due.new.self.sends
+    (subst Below c.in_ok-taken.ensures.first.0 c.loop-number-2.invariant))
 
 pub loop-number-2-preserved : goal.loop-number-2-preserved
 loop-number-2-preserved c =
@@ -25,4 +26,5 @@ loop-number-2-preserved c =
     rw (c.add-in-loop-number-2.ensures, c.reserve-in-loop-number-2.ensures.sends)
     (below-with_send (n + 1) _ c.take_due.new.self.sends small
     (below-more n (n + 1) c.take_due.new.self.sends (omega arith)
-    (below-rest n c.in_ok-taken.taken c.take_due.new.self.sends (subst Below c.in_ok-taken.ensures.first.0 c.loop-number-2.invariant))))
+    (below-rest n c.in_ok-taken.taken c.take_due.new.self.sends
+    (subst Below c.in_ok-taken.ensures.first.0 c.loop-number-2.invariant))))

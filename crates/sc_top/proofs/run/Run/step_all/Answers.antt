@@ -1,10 +1,10 @@
 use Rattle.std.proofs.Common.{◌≡◌, suc, ◌-◌, Some, refl, arith, rules, []}
-use Rattle.sc_top.specs.Host.{ready}
+use Rattle.sc_core.specs.Cues.{ready}
 use Rattle.sc_top.proofs.RunLemmas.{goes_further, goes_by_step}
 use Rattle.sc_top.proofs.run.Run.step_all.Goals as goal
 
-pub make-requires-clause-held : goal.make-requires-clause-held
-make-requires-clause-held c = (c.loop-self.invariant.goes []).held
+pub make-requires : goal.make-requires
+make-requires c = record { held = (c.loop-self.invariant []).held }
 
 pub loop-self-preserved : goal.loop-self-preserved
 loop-self-preserved c =
@@ -12,9 +12,4 @@ loop-self-preserved c =
     let m = c.in_ok-make.ensures in
     let is_ready : ready cur.host.image ≡ Some c.in-Some.session = search rules in
     let one_less : cur.left ≡ suc (cur.left - 1) = omega arith in
-    let left = m.left in
-    record {
-      goes = λ cs. goes_further _ _ _ cs cs cs (c.loop-self.invariant.goes cs) (goes_by_step cur _ _ c.in-Some.session cs refl refl one_less is_ready m);
-      commands = omega (arith, m.counts.commands);
-      events = omega (arith, m.counts.events);
-    }
+    λ cs. goes_further _ _ _ cs cs cs (c.loop-self.invariant cs) (goes_by_step cur _ _ c.in-Some.session cs refl refl one_less is_ready m)

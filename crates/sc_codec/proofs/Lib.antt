@@ -1,0 +1,10 @@
+pub mod Commands
+pub mod Fields
+pub mod Loop
+pub mod NameTests
+pub mod Names
+pub mod Pairs
+pub mod Steps
+pub mod ValueFields
+pub mod ValuesAgain
+pub mod ValuesTaken

@@ -1,0 +1,260 @@
+-- Sessions that fit their charts, as the host changes.
+use Rattle.std.proofs.Common.{◌≡◌, ℕ, zero, suc, ◌+◌, ◌<◌, ◌++◌, ◌||◌, nat_lt, not, Bool, true, false, cond, All, Option, Some, None, Result, Ok, Err, option_and_then, unwrap_or, List, [], ◌∷◌, length, length-append, map, slice_get, refl, sym, ap, subst, ◌∙◌, arith}
+use Rattle.std.specs.List.{list_any, position, position_or_len}
+use Rattle.std.specs.Result.{result_ok}
+use Rattle.std.proofs.lemmas.Bool.Decides.{nat_tests}
+use Rattle.std.proofs.lemmas.Option.{get_or_from_slice_get, slice_get_within, slice_get-get_or}
+use Rattle.std.proofs.Math.ListN.{get_or-append}
+use Rattle.std.specs.Option.{option_map_or}
+use Rattle.sc_types.specs.ChartTexts.{chart_of}
+use Rattle.sc_types.specs.declared.chart.Chart.{Chart}
+use Rattle.sc_types.specs.declared.chart.ChartFault.{ChartFault}
+use Rattle.sc_types.specs.declared.event.Event.{Event}
+use Rattle.sc_types.specs.declared.host.ChartImage.{ChartImage}
+use Rattle.sc_types.specs.declared.host.HostImage.{HostImage}
+use Rattle.sc_types.specs.declared.host.SessionImage.{SessionImage}
+use Rattle.sc_types.specs.declared.session.Cue.{Cue}
+use Rattle.sc_types.specs.declared.session.Cue.TheVariants.{Cancel, External, Fresh, Resume}
+use Rattle.sc_types.specs.declared.session.Phase.{Phase}
+use Rattle.sc_types.specs.declared.session.Phase.TheVariants as phase
+use Rattle.sc_types.specs.declared.session.SessionState.{SessionState}
+use Rattle.sc_law.specs.Fitting.{Fits, FitsRun, HasCue, fresh, runs}
+use Rattle.sc_expr.specs.Reading.{expr_of}
+use Rattle.sc_law.specs.Legality.{legal_fault}
+use Rattle.sc_law.specs.LegalCharts.{legal_chart_of, legal_or_fault}
+use Rattle.sc_law.specs.Turn.{TurnResult, begin, turn}
+use Rattle.sc_law.specs.Turned.{IsTurn, IsTurnOf, TurnedOf}
+use Rattle.sc_core.specs.Commands.{fresh_session}
+use Rattle.sc_core.specs.Cues.{cue_in, cue_of, outer_cue, queued_cue}
+use Rattle.sc_core.specs.Deliveries.{hears}
+use Rattle.sc_core.specs.FittingHosts.{FitsChart}
+use Rattle.sc_core.specs.Hosts.{bare_chart, chart_named, has_chart, is_chart_named, is_live, is_running}
+use Rattle.sc_core.proofs.TurnLemmas.{IsPast, turn-of, turn-past}
+
+-- ---- a chart more
+
+-- a chart that is there stays where it is
+pub place_more : (p : ChartImage → Bool) (xs ys : List ChartImage) → list_any p xs ≡ true
+    → (position_or_len p (xs ++ ys) ≡ position_or_len p xs) × (position_or_len p xs < length xs)
+place_more p [] ys h = absurd (cc)
+place_more p (x ∷ xs) ys h = by (p x) h (place_more p xs ys) where
+  by : (v : Bool) → (v || list_any p xs) ≡ true
+      → (list_any p xs ≡ true → (position_or_len p (xs ++ ys) ≡ position_or_len p xs) × (position_or_len p xs < length xs))
+      → (cond (not v) (1 + position_or_len p (xs ++ ys)) 0 ≡ cond (not v) (1 + position_or_len p xs) 0)
+      × (cond (not v) (1 + position_or_len p xs) 0 < suc (length xs))
+  by true h so = (refl, omega arith)
+  by false h so = let less = (so h).1 in (ap (λ n. 1 + n) (so h).0, omega (arith, less))
+
+no_chart : ChartImage
+no_chart = record { name = []; text = [] }
+
+get_more : (xs ys : List ChartImage) (i : ℕ) → i < length xs → slice_get (xs ++ ys) i ≡ slice_get xs i
+get_more xs ys i l =
+    let long = length-append xs ys in
+    slice_get-get_or (xs ++ ys) i no_chart (omega (arith, long))
+    ∙ ap (λ (x : ChartImage). Some x) (get_or-append xs ys no_chart i l) ∙ sym (slice_get-get_or xs i no_chart l)
+
+any_more : (p : ChartImage → Bool) (xs ys : List ChartImage) → list_any p xs ≡ true → list_any p (xs ++ ys) ≡ true
+any_more p [] ys h = absurd (cc)
+any_more p (x ∷ xs) ys h = by (p x) h (any_more p xs ys) where
+  by : (v : Bool) → (v || list_any p xs) ≡ true → (list_any p xs ≡ true → list_any p (xs ++ ys) ≡ true)
+      → (v || list_any p (xs ++ ys)) ≡ true
+  by true h so = refl
+  by false h so = so h
+
+-- the chart at the place of a name among these
+abbrev found_in : List ChartImage → Option ℕ → Option Chart
+found_in xs place =
+    option_and_then (λ i. option_and_then (λ (x : ChartImage). result_ok (legal_chart_of x.text)) (slice_get xs i)) place
+
+found_more : (name : List ℕ) (xs ys : List ChartImage) → list_any (is_chart_named name) xs ≡ true
+    → found_in (xs ++ ys) (position (is_chart_named name) (xs ++ ys)) ≡ found_in xs (position (is_chart_named name) xs)
+found_more name xs ys h =
+    let p = is_chart_named name in
+    let k = position_or_len p xs in
+    let more = place_more p xs ys h in
+    let long = length-append xs ys in
+    let less : k < length xs = more.1 in
+    let here : nat_lt k (length xs) ≡ true = grind (arith, nat_tests) in
+    let there : nat_lt k (length (xs ++ ys)) ≡ true = grind (arith, nat_tests) in
+    ap (λ n. found_in (xs ++ ys) (cond (nat_lt n (length (xs ++ ys))) (Some n) None)) more.0
+    ∙ ap (λ v. found_in (xs ++ ys) (cond v (Some k) None)) there
+    ∙ ap (λ o. option_and_then (λ (x : ChartImage). result_ok (legal_chart_of x.text)) o) (get_more xs ys k less)
+    ∙ sym (ap (λ v. found_in xs (cond v (Some k) None)) here)
+
+-- a session fits its chart as before, where there is one chart more
+pub fits-more : (g h : HostImage) (x : ChartImage) (s : SessionImage) → h.charts ≡ g.charts ++ x ∷ [] → FitsChart g s
+    → FitsChart h s
+fits-more g h x s e f =
+    let name = s.state.chart in
+    let same = ap (λ o. unwrap_or o bare_chart) (found_more name g.charts (x ∷ []) f.chart) in
+    let moved = ap (λ cs. unwrap_or (found_in cs (position (is_chart_named name) cs)) bare_chart) e in
+    record {
+      chart = ap (λ cs. list_any (is_chart_named name) cs) e ∙ any_more (is_chart_named name) g.charts (x ∷ []) f.chart;
+      fits = λ live. subst (λ (k : Chart). Fits k s.state) (sym (moved ∙ same)) (f.fits live);
+    }
+
+-- ---- other changes
+
+pub fits-same : (g h : HostImage) (s : SessionImage) → h.charts ≡ g.charts → FitsChart g s → FitsChart h s
+fits-same g h s e f = record {
+  chart = ap (λ cs. list_any (is_chart_named s.state.chart) cs) e ∙ f.chart;
+  fits = λ live. subst (λ (k : Chart). Fits k s.state)
+      (sym (ap (λ cs. unwrap_or (found_in cs (position (is_chart_named s.state.chart) cs)) bare_chart) e)) (f.fits live);
+}
+
+-- a session that was not stepped fits each chart
+pub fresh-fits : (g : HostImage) (session chart : List ℕ) → has_chart g chart ≡ true → FitsChart g (fresh_session session chart)
+fresh-fits g session chart h = record { chart = h; fits = λ live. fresh refl }
+
+live-runs : (p : Phase) → IsPast p → is_live p ≡ true → p ≡ phase.Running
+live-runs phase.Fresh past live = absurd past
+live-runs phase.Running past live = refl
+live-runs (phase.Ended how) past live = absurd (cc)
+
+-- what a turn gave, as an engine tells it
+pub turned-is : (k : Chart) (before : SessionState) (cue : Cue) (t : TurnedOf) → IsTurnOf k before cue t → IsTurn t
+    → turn k before cue ≡ record { after = t.after; effects = t.effects; logs = t.logs }
+turned-is k before cue t of is =
+    ap (λ c. turn c before cue) (sym of.0) ∙ ap (λ b. turn t.chart b cue) (sym of.1) ∙ ap (turn t.chart t.before) (sym of.2) ∙ is
+
+-- a session that goes on after a turn fits its chart, as the engine says
+pub stepped-fits : (g : HostImage) (s stepped : SessionImage) (cue : Cue) (t : TurnedOf)
+    → IsTurnOf (chart_named g s.state.chart) s.state cue t → IsTurn t
+    → (t.after.phase ≡ phase.Running → Fits (chart_named g s.state.chart) t.after) → stepped.state ≡ t.after
+    → FitsChart g s → FitsChart g stepped
+stepped-fits g s stepped cue t of is so e f =
+    let k = chart_named g s.state.chart in
+    let given = ap (λ (r : TurnResult). r.after) (turned-is k s.state cue t of is) in
+    let after : stepped.state ≡ (turn k s.state cue).after = e ∙ sym given in
+    let same : stepped.state.chart ≡ s.state.chart = ap (λ (b : SessionState). b.chart) after ∙ (turn-of k s.state cue).chart in
+    let past : IsPast stepped.state.phase = subst (λ (b : SessionState). IsPast b.phase) (sym after) (turn-past k s.state cue) in
+    record {
+      chart = ap (has_chart g) same ∙ f.chart;
+      fits = λ live. subst (λ name. Fits (chart_named g name) stepped.state) (sym same)
+          (subst (Fits k) (sym e) (so (sym (ap (λ (b : SessionState). b.phase) e) ∙ live-runs stepped.state.phase past live)));
+    }
+
+-- the session at a place
+pub fits-at : (g : HostImage) (i : ℕ) (s : SessionImage) → All (FitsChart g) g.sessions → slice_get g.sessions i ≡ Some s → FitsChart g s
+fits-at g i s h e = subst (FitsChart g) (get_or_from_slice_get g.sessions i s s e) (h i s (slice_get_within g.sessions i s e))
+
+-- ---- cues
+
+-- a session with a cue lives, and waits for that cue
+pub record WaitsFor (s : SessionState) (c : Cue) : Type 0 where
+  pub live : is_live s.phase ≡ true
+  pub cue : HasCue s c
+
+-- what a running session waits for
+runs_on : (s : SessionState) (c : Cue) → s.phase ≡ phase.Running → HasCue s c → WaitsFor s c
+runs_on s c running has = record { live = ap is_live running; cue = has }
+
+waits_queued : (s : SessionState) (queued : List Event) (cue : Cue) → s.phase ≡ phase.Running → s.internal ≡ []
+    → queued_cue queued ≡ Some cue → WaitsFor s cue
+waits_queued s [] cue e i h = absurd (cc)
+waits_queued s (q ∷ qs) (External v) e i h = runs_on s (External v) e (e, i)
+waits_queued s (q ∷ qs) Fresh e i h = absurd (cc)
+waits_queued s (q ∷ qs) Resume e i h = absurd (cc)
+waits_queued s (q ∷ qs) Cancel e i h = absurd (cc)
+
+waits_outer : (s : SessionState) (flagged : Bool) (queued : List Event) (cue : Cue) → s.phase ≡ phase.Running
+    → s.internal ≡ [] → outer_cue flagged queued ≡ Some cue → WaitsFor s cue
+waits_outer s false queued cue e i h = waits_queued s queued cue e i h
+waits_outer s true queued Cancel e i h = runs_on s Cancel e e
+waits_outer s true queued Fresh e i h = absurd (cc)
+waits_outer s true queued Resume e i h = absurd (cc)
+waits_outer s true queued (External v) e i h = absurd (cc)
+
+waits : (s : SessionState) (p : Phase) (internal : List Event) (flagged : Bool) (queued : List Event) (cue : Cue)
+    → s.phase ≡ p → s.internal ≡ internal → cue_in p internal flagged queued ≡ Some cue → WaitsFor s cue
+waits s phase.Fresh internal flagged queued Fresh e i h = record { live = ap is_live e; cue = e }
+waits s phase.Fresh internal flagged queued Resume e i h = absurd (cc)
+waits s phase.Fresh internal flagged queued Cancel e i h = absurd (cc)
+waits s phase.Fresh internal flagged queued (External v) e i h = absurd (cc)
+waits s phase.Running (x ∷ xs) flagged queued Resume e i h =
+    runs_on s Resume e (e, subst (λ es. 0 < length es) (sym i) (omega arith))
+waits s phase.Running (x ∷ xs) flagged queued Fresh e i h = absurd (cc)
+waits s phase.Running (x ∷ xs) flagged queued Cancel e i h = absurd (cc)
+waits s phase.Running (x ∷ xs) flagged queued (External v) e i h = absurd (cc)
+waits s phase.Running [] flagged queued cue e i h = waits_outer s flagged queued cue e i h
+waits s (phase.Ended how) internal flagged queued cue e i h = absurd (cc)
+
+-- a session with a cue lives, and waits for it
+pub waits-for : (s : SessionImage) (cue : Cue) → cue_of s ≡ Some cue → WaitsFor s.state cue
+waits-for s cue h = waits s.state s.state.phase s.state.internal s.flagged s.queued cue refl refl h
+
+-- ---- failed sends
+
+-- a run that fits has an internal queue of any events
+hears_run : (c : Chart) (s : SessionImage) (sendid : List ℕ) → FitsRun c (begin c s.state)
+    → FitsRun c (begin c (hears s sendid).state)
+hears_run c s sendid f = record {
+  legal = f.legal;
+  active = f.active;
+  entered = f.entered;
+  in_order = f.in_order;
+  kept = f.kept;
+  recorded = f.recorded;
+  invokes = f.invokes;
+  no_invoke_twice = f.no_invoke_twice;
+  to_start = f.to_start;
+  none_started = f.none_started;
+  no_name_twice = f.no_name_twice;
+  declared = f.declared;
+}
+
+hears_fits : (c : Chart) (s : SessionImage) (sendid : List ℕ) → is_running s.state.phase ≡ true → Fits c s.state
+    → Fits c (hears s sendid).state
+hears_fits c s sendid running (fresh e) =
+    let is_fresh : s.state.phase ≡ phase.Fresh = ap (λ (x : SessionState). x.phase) e in
+    let never : true ≡ false = sym running ∙ ap is_running is_fresh in
+    absurd (cc)
+hears_fits c s sendid running (runs r) = runs (record { running = r.running; fits = hears_run c s sendid r.fits })
+
+-- a session that hears of a failed send fits its chart as before
+pub hears-fits : (g : HostImage) (s : SessionImage) (sendid : List ℕ) → is_running s.state.phase ≡ true → FitsChart g s
+    → FitsChart g (hears s sendid)
+hears-fits g s sendid running f = record {
+  chart = f.chart;
+  fits = λ live. hears_fits (chart_named g s.state.chart) s sendid running (f.fits live);
+}
+
+-- ---- plans
+
+legal_of : (r : Result Chart ChartFault) (k : Chart) → legal_or_fault r ≡ Ok k → legal_fault k ≡ None
+legal_of (Err fault) k h = absurd (cc)
+legal_of (Ok c) k h = by (legal_fault c) refl h where
+  by : (o : Option ChartFault) → legal_fault c ≡ o → option_map_or Err o (Ok c) ≡ Ok k → legal_fault k ≡ None
+  by None e h = let same : c ≡ k = cc in subst (λ x. legal_fault x ≡ None) same e
+  by (Some fault) e h = absurd (cc)
+
+-- the chart at a place is what the text there spells
+pub given_at : (xs : List ChartImage) (ps : List Chart) (i : ℕ)
+    → map (λ (x : ChartImage). legal_chart_of x.text) xs ≡ map Ok ps
+    → (option_and_then (λ (x : ChartImage). result_ok (legal_chart_of x.text)) (slice_get xs i) ≡ slice_get ps i)
+    × (length xs ≡ length ps)
+given_at [] [] i h = (refl, refl)
+given_at [] (p ∷ ps) i h = absurd (cc)
+given_at (x ∷ xs) [] i h = absurd (cc)
+given_at (x ∷ xs) (p ∷ ps) zero h = let more = given_at xs ps zero cc in (cc, ap (λ n. suc n) more.1)
+given_at (x ∷ xs) (p ∷ ps) (suc i) h = let more = given_at xs ps i cc in (more.0, ap (λ n. suc n) more.1)
+
+-- and it is legal
+pub legal_at : (xs : List ChartImage) (ps : List Chart) (i : ℕ) (k : Chart)
+    → map (λ (x : ChartImage). legal_chart_of x.text) xs ≡ map Ok ps → slice_get ps i ≡ Some k → legal_fault k ≡ None
+legal_at [] [] i k h e = absurd (cc)
+legal_at [] (p ∷ ps) i k h e = absurd (cc)
+legal_at (x ∷ xs) [] i k h e = absurd (cc)
+legal_at (x ∷ xs) (p ∷ ps) zero k h e = legal_of (chart_of expr_of x.text) k cc
+legal_at (x ∷ xs) (p ∷ ps) (suc i) k h e =
+    let rest : map (λ (x : ChartImage). legal_chart_of x.text) xs ≡ map Ok ps = cc in
+    let there : slice_get ps i ≡ Some k = e in
+    legal_at xs ps i k rest there
+
+-- a place that is found is one of the list
+pub place_within : (p : ChartImage → Bool) (xs : List ChartImage) (i : ℕ) → position p xs ≡ Some i → i < length xs
+place_within p xs i h = by (nat_lt (position_or_len p xs) (length xs)) refl h where
+  by : (v : Bool) → nat_lt (position_or_len p xs) (length xs) ≡ v → cond v (Some (position_or_len p xs)) None ≡ Some i → i < length xs
+  by true e h = let same : position_or_len p xs ≡ i = cc in grind (arith, nat_tests)
+  by false e h = absurd (cc)

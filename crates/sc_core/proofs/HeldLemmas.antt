@@ -1,0 +1,145 @@
+-- What is always true of the host's body.
+use Rattle.std.proofs.Common.{◌≡◌, ℕ, ◌≤◌, All, List, [], ◌∷◌, ◌++◌, Option, Some, None, option_map, unwrap_or, slice_get, map, refl, ◌∙◌, length, arith, ap, subst, sym}
+use Rattle.sc_types.specs.declared.chart.Chart.{Chart}
+use Rattle.sc_types.specs.declared.host.HostImage.{HostImage}
+use Rattle.sc_types.specs.declared.host.TimerImage.{TimerImage}
+use Rattle.sc_core.specs.Bodies.{Agrees, Keeps, image, session_image}
+use Rattle.sc_core.specs.FittingHosts.{FitsChart}
+use Rattle.std.proofs.lemmas.List.Elements.{All-push}
+use Rattle.std.proofs.lemmas.Option.{slice_get-map}
+use Rattle.std.specs.Option.{option_map_or}
+use Rattle.sc_core.specs.Holding.{IsHeld, host_of, rooms_of}
+use Rattle.sc_core.specs.HostStates.{ArePlanned, CanInstall, CanMake, HasRoomIn, HaveRoomIn, IsPlanned, IsSound}
+use Rattle.sc_core.specs.Installing.{CanApplyAll, HasRoom, HaveRoom, HaveTargets, charts_after, installed}
+use Rattle.sc_core.specs.declared.change.Change.{Change}
+use Rattle.sc_core.specs.declared.change.Change.TheVariants.{Count, Advance, Install, Start, PutState, TakeFront, Queue, Tell, Flag, End, Delay, Undo, Fire, Lose}
+use Rattle.sc_core.proofs.SetLemmas.{map_long}
+use Rattle.sc_core.specs.declared.session.Session.{Session}
+use Rattle.sc_core.specs.Hosts.{empty_host}
+use Rattle.sc_core.specs.declared.body.Body.{Body}
+use Rattle.sc_core.specs.declared.body.InstalledChart.{InstalledChart}
+
+all_none : {X : Type 0} (P : X → Type 0) (xs : List X) → xs ≡ [] → All P xs
+all_none P xs none = subst (All P) (sym none) (λ i d l. absurd (omega (arith, l)))
+
+-- the body before the first command
+pub held_empty : {P : Type 0} (chart_of : P → Chart) (h : Body P) → image h ≡ empty_host → Agrees h → h.charts.items ≡ []
+    → IsHeld chart_of h
+held_empty chart_of h is agrees charts =
+    let events = ap (λ (g : HostImage). g.events) is in
+    let clock = ap (λ (g : HostImage). g.clock) is in
+    record {
+      agrees = agrees;
+      plans = all_none (IsPlanned chart_of) h.charts.items charts;
+      sound = record {
+        sessions = all_none (FitsChart (image h)) (image h).sessions (ap (λ (g : HostImage). g.sessions) is);
+        sends = all_none (λ (t : TimerImage). t.number ≤ h.delayed) h.timers.sends (ap (λ (g : HostImage). g.timers) is);
+        events = omega (arith, events);
+        clock = omega (arith, clock);
+      };
+    }
+
+room_is : (f : Session → ℕ) (items : List Session) (place : ℕ)
+    → unwrap_or (slice_get (map f items) place) 0 ≡ option_map_or f (slice_get items place) 0
+room_is f items place = ap (λ o. unwrap_or o 0) (slice_get-map f items place) ∙ by (slice_get items place)
+  where
+    by : (o : Option Session) → unwrap_or (option_map f o) 0 ≡ option_map_or f o 0
+    by None = refl
+    by (Some s) = refl
+
+has_room : {P : Type 0} (n : ℕ) (h : Body P) (c : Change P) → HasRoomIn n (rooms_of h) c → HasRoom n h c
+has_room n h Count r = tt
+has_room n h (Advance clock) r = tt
+has_room n h (Install name chart) r = r
+has_room n h (Start name session) r = r
+has_room n h (PutState place state) r = tt
+has_room n h (TakeFront place) r = tt
+has_room n h (Queue place e) r = subst (λ m. n ≤ m) (room_is (λ (s : Session). s.queued.spare) h.sessions.items place) r
+has_room n h (Tell place e) r = subst (λ m. n ≤ m) (room_is (λ (s : Session). s.failures.spare) h.sessions.items place) r
+has_room n h (Flag place) r = tt
+has_room n h (End place) r = tt
+has_room n h (Delay send) r = r
+has_room n h (Undo session id) r = tt
+has_room n h (Fire place id) r = subst (λ m. n ≤ m) (room_is (λ (s : Session). s.queued.spare) h.sessions.items place) r
+has_room n h Lose r = tt
+
+-- the room that contracts speak of is that of the body
+pub have_room : {P : Type 0} (n : ℕ) (h : Body P) (cs : List (Change P)) → HaveRoomIn n (rooms_of h) cs → HaveRoom n h cs
+have_room n h [] r = tt
+have_room n h (c ∷ cs) r = (has_room n h c r.0, have_room n h cs r.1)
+
+-- the charts that changes install have their plans
+pub planned_after : {P : Type 0} (chart_of : P → Chart) (cs : List (Change P)) (charts : List (InstalledChart P))
+    → All (IsPlanned chart_of) charts → ArePlanned chart_of cs → All (IsPlanned chart_of) (charts_after cs charts)
+planned_after chart_of [] charts all are = all
+planned_after chart_of (Install name chart ∷ cs) charts all are =
+    planned_after chart_of cs (charts ++ chart ∷ []) (All-push (IsPlanned chart_of) charts chart all are.0) are.1
+planned_after chart_of (Count ∷ cs) charts all are = planned_after chart_of cs charts all are
+planned_after chart_of (Advance clock ∷ cs) charts all are = planned_after chart_of cs charts all are
+planned_after chart_of (Start name session ∷ cs) charts all are = planned_after chart_of cs charts all are
+planned_after chart_of (PutState place state ∷ cs) charts all are = planned_after chart_of cs charts all are
+planned_after chart_of (TakeFront place ∷ cs) charts all are = planned_after chart_of cs charts all are
+planned_after chart_of (Queue place e ∷ cs) charts all are = planned_after chart_of cs charts all are
+planned_after chart_of (Tell place e ∷ cs) charts all are = planned_after chart_of cs charts all are
+planned_after chart_of (Flag place ∷ cs) charts all are = planned_after chart_of cs charts all are
+planned_after chart_of (End place ∷ cs) charts all are = planned_after chart_of cs charts all are
+planned_after chart_of (Delay send ∷ cs) charts all are = planned_after chart_of cs charts all are
+planned_after chart_of (Undo session id ∷ cs) charts all are = planned_after chart_of cs charts all are
+planned_after chart_of (Fire place id ∷ cs) charts all are = planned_after chart_of cs charts all are
+planned_after chart_of (Lose ∷ cs) charts all are = planned_after chart_of cs charts all are
+
+-- the body is held after the changes
+pub held_after : {P : Type 0} (chart_of : P → Chart) (h k : Body P) (cs : List (Change P)) → IsHeld chart_of h
+    → CanInstall chart_of (host_of h) cs → Agrees k → image k ≡ installed cs (image h)
+    → k.charts.items ≡ charts_after cs h.charts.items → IsHeld chart_of k
+held_after chart_of h k cs held can agrees is charts = record {
+  agrees = agrees;
+  plans = subst (All (IsPlanned chart_of)) (sym charts) (planned_after chart_of cs h.charts.items held.plans can.plans);
+  sound = subst IsSound (sym is) can.sound;
+}
+
+room_of : {P : Type 0} (n : ℕ) (h : Body P) (c : Change P) → HasRoom n h c → HasRoomIn n (rooms_of h) c
+room_of n h Count r = tt
+room_of n h (Advance clock) r = tt
+room_of n h (Install name chart) r = r
+room_of n h (Start name session) r = r
+room_of n h (PutState place state) r = tt
+room_of n h (TakeFront place) r = tt
+room_of n h (Queue place e) r = subst (λ m. n ≤ m) (sym (room_is (λ (s : Session). s.queued.spare) h.sessions.items place)) r
+room_of n h (Tell place e) r = subst (λ m. n ≤ m) (sym (room_is (λ (s : Session). s.failures.spare) h.sessions.items place)) r
+room_of n h (Flag place) r = tt
+room_of n h (End place) r = tt
+room_of n h (Delay send) r = r
+room_of n h (Undo session id) r = tt
+room_of n h (Fire place id) r = subst (λ m. n ≤ m) (sym (room_is (λ (s : Session). s.queued.spare) h.sessions.items place)) r
+room_of n h Lose r = tt
+
+rooms_in : {P : Type 0} (n : ℕ) (h : Body P) (cs : List (Change P)) → HaveRoom n h cs → HaveRoomIn n (rooms_of h) cs
+rooms_in n h [] r = tt
+rooms_in n h (c ∷ cs) r = (room_of n h c r.0, rooms_in n h cs r.1)
+
+-- a body with more room is held
+pub held_kept : {P : Type 0} (chart_of : P → Chart) (h k : Body P) → IsHeld chart_of h → Keeps h k
+    → k.charts.items ≡ h.charts.items → IsHeld chart_of k
+held_kept chart_of h k held keeps charts = record {
+  agrees = keeps.agrees;
+  plans = subst (All (IsPlanned chart_of)) (sym charts) held.plans;
+  sound = subst IsSound (sym keeps.image) held.sound;
+}
+
+-- the queues that changes need are those of the body
+pub targets_in : {P : Type 0} (h : Body P) (cs : List (Change P)) → HaveTargets (length (image h).sessions) cs
+    → HaveTargets (length h.sessions.items) cs
+targets_in h cs t = subst (λ n. HaveTargets n cs) (map_long session_image h.sessions.items) t
+
+-- changes for which room was made can be installed
+pub can_install : {P : Type 0} (chart_of : P → Chart) (h k : Body P) (cs : List (Change P)) → Keeps h k
+    → CanMake chart_of (image h) cs → length cs ≤ k.ready.spare → HaveRoom (length cs) k cs
+    → CanInstall chart_of (host_of k) cs
+can_install chart_of h k cs keeps can ready room = record {
+  can = subst (λ g. CanApplyAll g cs) (sym keeps.image) can.can;
+  ready = ready;
+  room = rooms_in (length cs) k cs room;
+  plans = can.plans;
+  sound = subst (λ g. IsSound (installed cs g)) (sym keeps.image) can.sound;
+}

@@ -1,0 +1,15 @@
+pub mod BodyLemmas
+pub mod ChangeLemmas
+pub mod FitLemmas
+pub mod FoundLemmas
+pub mod GivenLemmas
+pub mod HeldLemmas
+pub mod InstallLemmas
+pub mod MoveLemmas
+pub mod NameLemmas
+pub mod Once
+pub mod PrepareLemmas
+pub mod RoomLemmas
+pub mod SetLemmas
+pub mod TurnLemmas
+pub mod WeightLemmas

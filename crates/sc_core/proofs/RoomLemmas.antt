@@ -1,0 +1,184 @@
+-- Room is made in the body.
+use Rattle.std.proofs.Common.{OnOk, Result, Ok, Err, None, ◌≡◌, ℕ, ◌+◌, ◌≤◌, zero, suc, Some, List, [], ◌∷◌, length, drop, map, get_or, slice_get, slice_set, refl, arith, ap, subst, sym, ◌∙◌}
+use Rattle.std.proofs.Math.Seq.{map-set_same}
+use Rattle.std.proofs.lemmas.Option.{get_or_from_slice_get}
+use Rattle.std.specs.Option.{option_map_or}
+use Rattle.sc_rooms.specs.Rooms.{PlacesOf}
+use Rattle.sc_types.specs.declared.host.HostImage.{HostImage}
+use Rattle.sc_core.proofs.SetLemmas.{map_long}
+use Rattle.sc_types.specs.declared.host.SessionImage.{SessionImage}
+use Rattle.sc_core.specs.Bodies.{Agrees, Keeps, cued, image, session_image}
+use Rattle.sc_core.specs.Installing.{HasRoom, HasTarget, HaveRoom, HaveTargets}
+use Rattle.sc_core.specs.declared.body.Body.{Body}
+use Rattle.sc_core.specs.declared.change.Change.{Change}
+use Rattle.sc_core.specs.declared.change.Change.TheVariants.{Count, Advance, Install, Start, PutState, TakeFront, Queue, Tell, Flag, End, Delay, Undo, Fire, Lose}
+use Rattle.sc_core.specs.declared.session.Session.{Session}
+
+more_set : (f : Session → ℕ) (items : List Session) (place : ℕ) (s w : Session) → slice_get items place ≡ Some s
+    → f s ≤ f w → (i : ℕ)
+    → option_map_or f (slice_get items i) 0 ≤ option_map_or f (slice_get (slice_set items place w) i) 0
+more_set f [] place s w at less i = omega arith
+more_set f (x ∷ xs) zero s w at less zero = let is : x ≡ s = cc in subst (λ y. f y ≤ f w) (sym is) less
+more_set f (x ∷ xs) zero s w at less (suc i) = omega arith
+more_set f (x ∷ xs) (suc place) s w at less zero = omega arith
+more_set f (x ∷ xs) (suc place) s w at less (suc i) = more_set f xs place s w at less i
+
+-- the room that was made is there
+pub made_there : (f : Session → ℕ) (items : List Session) (place count : ℕ) (s w : Session) → slice_get items place ≡ Some s
+    → count ≤ f w → count ≤ option_map_or f (slice_get (slice_set items place w) place) 0
+made_there f [] place count s w at less = absurd cc
+made_there f (x ∷ xs) zero count s w at less = less
+made_there f (x ∷ xs) (suc place) count s w at less = made_there f xs place count s w at less
+
+-- a session with more room is the same session
+pub keeps_set : {P : Type 0} (h : Body P) (place : ℕ) (s w : Session) → Agrees h → slice_get h.sessions.items place ≡ Some s
+    → session_image w ≡ session_image s → s.queued.spare ≤ w.queued.spare → s.failures.spare ≤ w.failures.spare
+    → Keeps h (record h { sessions = record h.sessions { items = slice_set h.sessions.items place w } })
+keeps_set h place s w agrees at is queued failures =
+    let items = h.sessions.items in
+    let there : session_image w ≡ session_image (get_or items place s)
+    = is ∙ ap session_image (sym (get_or_from_slice_get items place s s at)) in
+    let images : map session_image (slice_set items place w) ≡ map session_image items
+    = map-set_same session_image items place w s there in
+    record {
+      charts = omega arith;
+      sessions = omega arith;
+      timers = omega arith;
+      ready = omega arith;
+      queued = more_set (λ (x : Session). x.queued.spare) items place s w at queued;
+      failures = more_set (λ (x : Session). x.failures.spare) items place s w at failures;
+      agrees = record {
+        charts = agrees.charts;
+        sessions = agrees.sessions ∙ sym (map-set_same (λ (x : Session). x.state.session) items place w s
+            (ap (λ (x : SessionImage). x.state.session) there));
+        ready = agrees.ready ∙ ap (cued 0) (sym images);
+      };
+      image = ap (λ ss. record (image h) { sessions = ss }) images;
+    }
+
+pub keeps_same : {P : Type 0} (h : Body P) → Agrees h → Keeps h h
+keeps_same h agrees = record {
+  charts = omega arith;
+  sessions = omega arith;
+  timers = omega arith;
+  ready = omega arith;
+  queued = λ place. omega arith;
+  failures = λ place. omega arith;
+  agrees = agrees;
+  image = refl;
+}
+
+pub keeps_on : {P : Type 0} (h k m : Body P) → Keeps h k → Keeps k m → Keeps h m
+keeps_on h k m first second = record {
+  charts = omega (arith, first.charts, second.charts);
+  sessions = omega (arith, first.sessions, second.sessions);
+  timers = omega (arith, first.timers, second.timers);
+  ready = omega (arith, first.ready, second.ready);
+  queued = λ place. let a = first.queued place in let b = second.queued place in omega (arith, a, b);
+  failures = λ place. let a = first.failures place in let b = second.failures place in omega (arith, a, b);
+  agrees = second.agrees;
+  image = second.image ∙ first.image;
+}
+
+room_kept : {P : Type 0} (n : ℕ) (h k : Body P) (c : Change P) → Keeps h k → HasRoom n h c → HasRoom n k c
+room_kept n h k Count l r = tt
+room_kept n h k (Advance clock) l r = tt
+room_kept n h k (Install name chart) l r = omega (arith, l.charts, r)
+room_kept n h k (Start name session) l r = omega (arith, l.sessions, r)
+room_kept n h k (PutState place state) l r = tt
+room_kept n h k (TakeFront place) l r = tt
+room_kept n h k (Queue place e) l r = let at = l.queued place in omega (arith, at, r)
+room_kept n h k (Tell place e) l r = let at = l.failures place in omega (arith, at, r)
+room_kept n h k (Flag place) l r = tt
+room_kept n h k (End place) l r = tt
+room_kept n h k (Delay send) l r = omega (arith, l.timers, r)
+room_kept n h k (Undo session id) l r = tt
+room_kept n h k (Fire place id) l r = let at = l.queued place in omega (arith, at, r)
+room_kept n h k Lose l r = tt
+
+pub rooms_kept : {P : Type 0} (n : ℕ) (h k : Body P) (cs : List (Change P)) → Keeps h k → HaveRoom n h cs → HaveRoom n k cs
+rooms_kept n h k [] l r = tt
+rooms_kept n h k (c ∷ cs) l r = (room_kept n h k c l r.0, rooms_kept n h k cs l r.1)
+
+pub on_ok : {T E : Type 0} (r : Result T E) (A B : Type 0) → OnOk r A → (A → B) → OnOk r B
+on_ok (Ok x) A B a f = f a
+on_ok (Err e) A B a f = tt
+
+-- what the loop over the changes keeps
+pub record MakesRoom {P : Type 0} (whole : List (Change P)) (n place : ℕ) (h k : Body P) : Type 0 where
+  pub count : n ≡ length whole
+  pub keeps : Keeps h k
+  pub charts : k.charts.items ≡ h.charts.items
+  pub ready : n ≤ k.ready.spare
+  pub rest : (m : Body P) → Keeps k m → HaveRoom n m (drop place whole) → HaveRoom n m whole
+  pub targets : HaveTargets (length h.sessions.items) (drop place whole)
+
+drop_at : {X : Type 0} (xs : List X) (i : ℕ) (x : X) → slice_get xs i ≡ Some x → drop i xs ≡ x ∷ drop (i + 1) xs
+drop_at [] i x at = absurd cc
+drop_at (y ∷ ys) zero x at = let is : y ≡ x = cc in ap (λ z. z ∷ ys) is
+drop_at (y ∷ ys) (suc i) x at =
+    let next : suc (i + 1) ≡ suc i + 1 = omega arith in
+    drop_at ys i x at ∙ ap (λ n. x ∷ drop n (y ∷ ys)) next
+
+drop_past : {X : Type 0} (xs : List X) (i : ℕ) → slice_get xs i ≡ None → drop i xs ≡ []
+drop_past [] zero at = refl
+drop_past [] (suc i) at = refl
+drop_past (y ∷ ys) zero at = absurd cc
+drop_past (y ∷ ys) (suc i) at = drop_past ys i at
+
+same_length : {P : Type 0} (h k : Body P) → Keeps h k → length k.sessions.items ≡ length h.sessions.items
+same_length h k keeps =
+    let long = ap (λ (g : HostImage). length g.sessions) keeps.image in
+    omega (arith, long, map_long session_image h.sessions.items, map_long session_image k.sessions.items)
+
+pub target_there : {P : Type 0} (whole : List (Change P)) (n place : ℕ) (h k : Body P) (c : Change P)
+    → slice_get whole place ≡ Some c → MakesRoom whole n place h k → HasTarget (length k.sessions.items) c
+target_there whole n place h k c at l =
+    let now = subst (HaveTargets (length h.sessions.items)) (drop_at whole place c at) l.targets in
+    subst (λ m. HasTarget m c) (sym (same_length h k l.keeps)) now.0
+
+pub more_room : {P : Type 0} (whole : List (Change P)) (n place : ℕ) (h k m : Body P) (c : Change P)
+    → slice_get whole place ≡ Some c → MakesRoom whole n place h k → Keeps k m
+    → m.charts.items ≡ k.charts.items → HasRoom n m c → MakesRoom whole n (place + 1) h m
+more_room {P = P} whole n place h k m c at l keeps charts room =
+    let is = drop_at whole place c at in
+    record {
+      count = l.count;
+      keeps = keeps_on h k m l.keeps keeps;
+      charts = charts ∙ l.charts;
+      ready = omega (arith, l.ready, keeps.ready);
+      rest = λ b kept have. l.rest b (keeps_on k m b keeps kept)
+          (subst (HaveRoom n b) (sym is) (room_kept n m b c kept room, have));
+      targets = (subst (HaveTargets (length h.sessions.items)) is l.targets).1;
+    }
+
+pub all_room : {P : Type 0} (whole : List (Change P)) (n place : ℕ) (h k : Body P) → slice_get whole place ≡ None
+    → MakesRoom whole n place h k → HaveRoom (length whole) k whole
+all_room whole n place h k none l =
+    subst (λ m. HaveRoom m k whole) l.count
+    (l.rest k (keeps_same k l.keeps.agrees) (subst (HaveRoom n k) (sym (drop_past whole place none)) tt))
+
+pub keeps_ready : {P : Type 0} (h : Body P) (ready : PlacesOf) → Agrees h → ready.places ≡ h.ready.places
+    → h.ready.spare ≤ ready.spare → Keeps h (record h { ready = ready })
+keeps_ready h ready agrees places spare = record {
+  charts = omega arith;
+  sessions = omega arith;
+  timers = omega arith;
+  ready = spare;
+  queued = λ place. omega arith;
+  failures = λ place. omega arith;
+  agrees = record { charts = agrees.charts; sessions = agrees.sessions; ready = places ∙ agrees.ready };
+  image = refl;
+}
+
+pub first_room : {P : Type 0} (whole : List (Change P)) (n : ℕ) (h : Body P) (ready : PlacesOf) → Agrees h
+    → n ≡ length whole → ready.places ≡ h.ready.places → h.ready.spare ≤ ready.spare → n ≤ ready.spare
+    → HaveTargets (length h.sessions.items) whole → MakesRoom whole n 0 h (record h { ready = ready })
+first_room whole n h ready agrees count places spare room targets = record {
+  count = count;
+  keeps = keeps_ready h ready agrees places spare;
+  charts = refl;
+  ready = room;
+  rest = λ m kept have. have;
+  targets = targets;
+}

@@ -1,0 +1,16 @@
+use Rattle.std.proofs.Common.{drop, ap, refl, arith, ◌∙◌}
+use Rattle.sc_core.specs.Bodies.{image, marked, session_image}
+use Rattle.sc_core.specs.Hosts.{with_session}
+use Rattle.sc_core.proofs.SetLemmas.{rest_is, set_session}
+use Rattle.sc_core.proofs.body.Body.take_front.Goals as goal
+
+pub returns-clause-makes : goal.returns-clause-makes
+returns-clause-makes g c =
+    let h = c.args.self.now in
+    let s = c.item_mut-session.result.now in
+    set_session h c.args.place s _ _ h.events h.timers
+    (λ s. with_session (image h) c.args.place (record s { queued = drop 1 s.queued }))
+    c.requires.agrees c.item_mut-session.ensures.value refl (omega (arith, c.pop_front.ensures.spare)) (omega arith) (c.mark.ensures.places ∙ ap (λ b. marked b c.args.place h.ready.places) c.is_ready.ensures)
+    c.mark.ensures.room (omega arith)
+    (ap (λ es. with_session (image h) c.args.place (record (session_image s) { queued = es }))
+    (rest_is _ s.queued.items _ c.pop_front.ensures.items))

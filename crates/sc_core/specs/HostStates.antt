@@ -1,0 +1,76 @@
+-- The host's body as contracts see it, and when a list of changes can be installed. This host's own rule.
+use Rattle.std.specs.Prelude.{ℕ, ◌*◌, ◌^◌, ◌≡◌, ◌≤◌, All, List, [], ◌∷◌, Ok, length, slice_get, unwrap_or}
+use Rattle.std.specs.Arc.{arc_value}
+use Rattle.sc_types.specs.declared.chart.Chart.{Chart}
+use Rattle.sc_types.specs.declared.host.HostImage.{HostImage}
+use Rattle.sc_types.specs.declared.host.TimerImage.{TimerImage}
+use Rattle.sc_types.specs.declared.limits.TheConstants.{CLOCK_LIMIT}
+use Rattle.sc_law.specs.LegalCharts.{legal_chart_of}
+use Rattle.sc_core.specs.FittingHosts.{FitsChart}
+use Rattle.sc_core.specs.Installing.{CanApplyAll, HaveTargets, installed}
+use Rattle.sc_core.specs.declared.body.InstalledChart.{InstalledChart}
+use Rattle.sc_core.specs.declared.change.Change.{Change}
+use Rattle.sc_core.specs.declared.change.Change.TheVariants.{Install, Start, Queue, Tell, Delay, Fire}
+
+-- for how much more there is room; in the queues, by the sessions' places
+pub record Rooms : Type 0 where
+  pub charts : ℕ
+  pub sessions : ℕ
+  pub timers : ℕ
+  pub ready : ℕ
+  pub queued : List ℕ
+  pub failures : List ℕ
+
+-- the host machine, and the rooms beside it
+pub record HostOf : Type 0 where
+  pub image : HostImage
+  pub room : Rooms
+
+-- what is always true of the host machine: sessions fit their charts, sends have numbers that were given out, no command
+-- gave out as many numbers of events as a list may have items, and the clock is within its limit
+pub record IsSound (g : HostImage) : Type 0 where
+  pub sessions : All (FitsChart g) g.sessions
+  pub sends : All (λ (t : TimerImage). t.number ≤ g.delayed) g.timers
+  pub events : g.events ≤ g.commands * 2 ^ 64
+  pub clock : g.clock ≤ CLOCK_LIMIT
+
+-- the plan is that of the legal chart which the text spells
+abbrev pub IsPlanned : {P : Type 0} → (P → Chart) → InstalledChart P → Type 0
+IsPlanned chart_of c = legal_chart_of c.image.text ≡ Ok (chart_of (arc_value c.plan))
+
+abbrev pub ArePlanned : {P : Type 0} → (P → Chart) → List (Change P) → Type 0
+ArePlanned chart_of [] = Unit {0}
+ArePlanned chart_of (Install name chart ∷ cs) = IsPlanned chart_of chart × ArePlanned chart_of cs
+ArePlanned chart_of (c ∷ cs) = ArePlanned chart_of cs
+
+abbrev pub room_at : List ℕ → ℕ → ℕ
+room_at rooms place = unwrap_or (slice_get rooms place) 0
+
+-- there is room for so many changes where a change puts something
+abbrev pub HasRoomIn : {P : Type 0} → ℕ → Rooms → Change P → Type 0
+HasRoomIn n r (Install name chart) = n ≤ r.charts
+HasRoomIn n r (Start name session) = n ≤ r.sessions
+HasRoomIn n r (Queue place e) = n ≤ room_at r.queued place
+HasRoomIn n r (Tell place e) = n ≤ room_at r.failures place
+HasRoomIn n r (Delay send) = n ≤ r.timers
+HasRoomIn n r (Fire place id) = n ≤ room_at r.queued place
+HasRoomIn n r c = Unit {0}
+
+abbrev pub HaveRoomIn : {P : Type 0} → ℕ → Rooms → List (Change P) → Type 0
+HaveRoomIn n r [] = Unit {0}
+HaveRoomIn n r (c ∷ cs) = HasRoomIn n r c × HaveRoomIn n r cs
+
+-- each change can be made of the host machine that the ones before it leave, within the room that there is
+pub record CanInstall {P : Type 0} (chart_of : P → Chart) (h : HostOf) (changes : List (Change P)) : Type 0 where
+  pub can : CanApplyAll h.image changes
+  pub ready : length changes ≤ h.room.ready
+  pub room : HaveRoomIn (length changes) h.room changes
+  pub plans : ArePlanned chart_of changes
+  pub sound : IsSound (installed changes h.image)
+
+-- the same but for the room
+pub record CanMake {P : Type 0} (chart_of : P → Chart) (g : HostImage) (changes : List (Change P)) : Type 0 where
+  pub can : CanApplyAll g changes
+  pub targets : HaveTargets (length g.sessions) changes
+  pub plans : ArePlanned chart_of changes
+  pub sound : IsSound (installed changes g)

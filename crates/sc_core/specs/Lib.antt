@@ -1,0 +1,12 @@
+pub mod Bodies
+pub mod Changes
+pub mod Commands
+pub mod Cues
+pub mod Deliveries
+pub mod FittingHosts
+pub mod Histories
+pub mod Hosts
+pub mod Installing
+pub mod Preparing
+pub mod Holding
+pub mod HostStates

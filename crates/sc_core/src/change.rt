@@ -1,0 +1,117 @@
+ghost use Rattle.std.specs.Prelude.{◌≡◌, ◌≤◌, length};
+ghost use Rattle.sc_core.specs.Bodies.{Agrees, Makes, image};
+ghost use Rattle.sc_core.specs.Installing.{CanApply, CanApplyAll, HasRoom, HaveRoom, apply, charts_after, charts_with, installed};
+
+use crate::body::{Body, InstalledChart};
+use crate::session::Session;
+use sc_base::{Queue, SmallBytes, Word};
+use sc_types::{Event, SessionState, TimerImage};
+
+/// An elementary change of the host. A command is prepared as a list of them, each to be made of the host that the ones
+/// before it leave.
+#[derive(Drop)]
+pub enum Change<P> {
+    /// A command is counted.
+    Count,
+    /// The clock advances.
+    Advance {
+        clock: u64,
+    },
+    /// A chart is installed.
+    Install {
+        name: Word,
+        chart: InstalledChart<P>,
+    },
+    /// A session is started.
+    Start {
+        name: Word,
+        session: Session,
+    },
+    /// The state of the session at a place is replaced.
+    PutState {
+        place: usize,
+        state: SessionState,
+    },
+    /// The front of an external queue is taken.
+    TakeFront {
+        place: usize,
+    },
+    /// An event joins an external queue under the next number.
+    Queue {
+        place: usize,
+        event: Event,
+    },
+    /// An event joins an internal queue.
+    Tell {
+        place: usize,
+        event: Event,
+    },
+    /// The next turn of a session is to end it.
+    Flag {
+        place: usize,
+    },
+    /// A session that has ended is cleared.
+    End {
+        place: usize,
+    },
+    /// A send is pending.
+    Delay {
+        send: TimerImage,
+    },
+    /// The pending sends of a session and an id go.
+    Undo {
+        session: Word,
+        id: SmallBytes,
+    },
+    /// The first pending send leaves and joins an external queue.
+    Fire {
+        place: usize,
+        invokeid: Option<SmallBytes>,
+    },
+    /// The first pending send is lost.
+    Lose,
+}
+
+impl<P: Drop> Body<P> {
+    /// Makes one change.
+    fn change(&mut self, change: Change<P>)
+        requires agrees { Agrees self.old }
+        requires can { CanApply (image self.old) change }
+        requires ready { 1 ≤ self.old.ready.spare }
+        requires room { HasRoom 1 self.old change }
+        ensures makes { Makes (apply change (image self.old)) self.old self.new }
+        ensures charts { self.new.charts.items ≡ charts_with change self.old.charts.items }
+    {
+        match change {
+            Change::Count => self.count(),
+            Change::Advance { clock } => self.advance(clock),
+            Change::Install { name, chart } => self.install_chart(name, chart),
+            Change::Start { name, session } => self.start(name, session),
+            Change::PutState { place, state } => self.put_state(place, state),
+            Change::TakeFront { place } => self.take_front(place),
+            Change::Queue { place, event } => self.queue(place, event),
+            Change::Tell { place, event } => self.tell(place, event),
+            Change::Flag { place } => self.flag(place),
+            Change::End { place } => self.end(place),
+            Change::Delay { send } => self.delay(send),
+            Change::Undo { session, id } => self.undo(&session, &id),
+            Change::Fire { place, invokeid } => self.fire(place, invokeid),
+            Change::Lose => self.lose(),
+        }
+    }
+
+    /// Makes the changes in order, for which the room was made before.
+    pub(crate) fn install(&mut self, changes: &mut Queue<Change<P>>)
+        requires agrees { Agrees self.old }
+        requires can { CanApplyAll (image self.old) changes.old }
+        requires ready { length changes.old ≤ self.old.ready.spare }
+        requires room { HaveRoom (length changes.old) self.old changes.old }
+        ensures agrees { Agrees self.new }
+        ensures image { image self.new ≡ installed changes.old (image self.old) }
+        ensures charts { self.new.charts.items ≡ charts_after changes.old self.old.charts.items }
+    {
+        while let Some(change) = changes.pop_front() {
+            self.change(change);
+        }
+    }
+}

@@ -1,0 +1,129 @@
+ghost use Rattle.std.specs.Prelude.{◌≡◌, ◌+◌, ◌^◌, ◌<◌, ◌≤◌, Some, false, length, not, slice_get};
+ghost use Rattle.std.specs.Option.{option_map_or};
+ghost use Rattle.sc_core.specs.Bodies.{Agrees, Makes, failure_room, image, marked, queue_room};
+ghost use Rattle.sc_core.specs.Changes.{flag, put_state, queue_at, take_front, tell};
+ghost use Rattle.sc_core.specs.Deliveries.{end_at};
+ghost use Rattle.sc_core.specs.Hosts.{is_live};
+ghost use Rattle.sc_core.specs.declared.session.Session.{Session};
+
+use crate::body::Body;
+use crate::session::{is_live, is_ready, replace_state};
+use sc_rooms::Places;
+use sc_types::{Event, SessionState};
+
+/// Notes whether the session at a place has a cue.
+pub(crate) fn mark(ready: &mut Places, place: usize, is_ready: bool)
+    requires room { 0 < ready.old.spare }
+    ensures places { ready.new.places ≡ marked is_ready place ready.old.places }
+    ensures room { ready.old.spare ≤ ready.new.spare + 1 }
+{
+    if is_ready {
+        ready.insert(place);
+    } else {
+        ready.remove(place);
+    }
+}
+
+impl<P: Drop> Body<P> {
+    /// Puts an event into the external queue of the session at a place.
+    pub(crate) fn queue(&mut self, place: usize, mut event: Event)
+        requires agrees { Agrees self.old }
+        requires within { place < length self.old.sessions.items }
+        requires number { self.old.events + 1 < 2 ^ 128 }
+        requires ready { 0 < self.old.ready.spare }
+        requires room { 0 < queue_room self.old place }
+        ensures makes { Makes (queue_at (image self.old) place event) self.old self.new }
+        ensures charts { self.new.charts.items ≡ self.old.charts.items }
+    {
+        let number = self.events + 1;
+        event.number = number;
+        let session = self.sessions.item_mut(place);
+        session.queued.push(event);
+        mark(&mut self.ready, place, is_ready(session));
+        self.events = number;
+    }
+
+    /// Puts an event into the internal queue of the session at a place.
+    pub(crate) fn tell(&mut self, place: usize, event: Event)
+        requires agrees { Agrees self.old }
+        requires within { place < length self.old.sessions.items }
+        requires ready { 0 < self.old.ready.spare }
+        requires room { 0 < failure_room self.old place }
+        ensures makes { Makes (tell (image self.old) place event) self.old self.new }
+        ensures charts { self.new.charts.items ≡ self.old.charts.items }
+    {
+        let session = self.sessions.item_mut(place);
+        session.failures.push(event);
+        mark(&mut self.ready, place, is_ready(session));
+    }
+
+    /// Replaces the state of the session at a place.
+    pub(crate) fn put_state(&mut self, place: usize, state: SessionState)
+        requires agrees { Agrees self.old }
+        requires within { place < length self.old.sessions.items }
+        requires name { slice_get self.old.sessions.names place ≡ Some state.session }
+        requires ready { 0 < self.old.ready.spare }
+        ensures makes { Makes (put_state (image self.old) place state) self.old self.new }
+        ensures charts { self.new.charts.items ≡ self.old.charts.items }
+    {
+        let session = self.sessions.item_mut(place);
+        session.failures.clear();
+        replace_state(&mut session.state, state);
+        mark(&mut self.ready, place, is_ready(session));
+    }
+
+    /// Takes the front of the external queue of the session at a place.
+    pub(crate) fn take_front(&mut self, place: usize)
+        requires agrees { Agrees self.old }
+        requires within { place < length self.old.sessions.items }
+        requires ready { 0 < self.old.ready.spare }
+        ensures makes { Makes (take_front (image self.old) place) self.old self.new }
+        ensures charts { self.new.charts.items ≡ self.old.charts.items }
+    {
+        let session = self.sessions.item_mut(place);
+        let _ = session.queued.pop_front();
+        mark(&mut self.ready, place, is_ready(session));
+    }
+
+    /// Lets the next turn of the session at a place end it.
+    pub(crate) fn flag(&mut self, place: usize)
+        requires agrees { Agrees self.old }
+        requires within { place < length self.old.sessions.items }
+        requires ready { 0 < self.old.ready.spare }
+        ensures makes { Makes (flag (image self.old) place) self.old self.new }
+        ensures charts { self.new.charts.items ≡ self.old.charts.items }
+    {
+        let session = self.sessions.item_mut(place);
+        session.flagged = true;
+        mark(&mut self.ready, place, is_ready(session));
+    }
+
+    /// Whether the session at a place has ended.
+    fn has_ended(&self, place: usize) -> bool
+        ensures { result
+            ≡ option_map_or (λ (s : Session). not (is_live s.state.phase)) (slice_get self.now.sessions.items place)
+            false }
+    {
+        match self.sessions.get(place) {
+            Some(session) => !is_live(&session.state.phase),
+            None => false,
+        }
+    }
+
+    /// Clears the session at a place, where it has ended.
+    pub(crate) fn end(&mut self, place: usize)
+        requires agrees { Agrees self.old }
+        requires within { place < length self.old.sessions.items }
+        requires ready { 0 < self.old.ready.spare }
+        ensures makes { Makes (end_at (image self.old) place) self.old self.new }
+        ensures charts { self.new.charts.items ≡ self.old.charts.items }
+    {
+        if !self.has_ended(place) {
+            return;
+        }
+        let session = self.sessions.item_mut(place);
+        session.queued.clear();
+        let _ = self.timers.discard(session.state.session.bytes());
+        mark(&mut self.ready, place, is_ready(session));
+    }
+}

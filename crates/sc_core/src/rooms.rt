@@ -1,0 +1,69 @@
+ghost use Rattle.std.specs.Prelude.{◌≡◌, ◌≤◌, ◌<◌, length, OnOk};
+ghost use Rattle.sc_core.specs.Bodies.{Agrees, Keeps, failure_room, image, queue_room};
+ghost use Rattle.sc_core.specs.Installing.{HasRoom, HasTarget, HaveRoom, HaveTargets};
+
+use crate::body::Body;
+use crate::change::Change;
+use sc_base::{NoMemory, Queue};
+
+impl<P: Drop> Body<P> {
+    /// Makes room for so many more events in the external queue of the session at a place.
+    fn reserve_queue(&mut self, place: usize, count: usize) -> Result<(), NoMemory>
+        requires agrees { Agrees self.old }
+        requires within { place < length self.old.sessions.items }
+        ensures keeps { Keeps self.old self.new }
+        ensures charts { self.new.charts.items ≡ self.old.charts.items }
+        ensures ok { OnOk result (count ≤ queue_room self.new place) }
+    {
+        self.sessions.item_mut(place).queued.reserve(count)
+    }
+
+    /// Makes room for so many more events in the internal queue of the session at a place.
+    fn reserve_failures(&mut self, place: usize, count: usize) -> Result<(), NoMemory>
+        requires agrees { Agrees self.old }
+        requires within { place < length self.old.sessions.items }
+        ensures keeps { Keeps self.old self.new }
+        ensures charts { self.new.charts.items ≡ self.old.charts.items }
+        ensures ok { OnOk result (count ≤ failure_room self.new place) }
+    {
+        self.sessions.item_mut(place).failures.reserve(count)
+    }
+
+    /// Makes room for so many changes where one puts something.
+    fn make_room_for(&mut self, change: &Change<P>, count: usize) -> Result<(), NoMemory>
+        requires agrees { Agrees self.old }
+        requires target { HasTarget (length self.old.sessions.items) change.now }
+        ensures keeps { Keeps self.old self.new }
+        ensures charts { self.new.charts.items ≡ self.old.charts.items }
+        ensures ok { OnOk result (HasRoom count self.new change.now) }
+    {
+        match change {
+            Change::Install { .. } => self.charts.reserve(count),
+            Change::Start { .. } => self.sessions.reserve(count),
+            Change::Queue { place, .. } => self.reserve_queue(*place, count),
+            Change::Tell { place, .. } => self.reserve_failures(*place, count),
+            Change::Delay { .. } => self.timers.reserve(count),
+            Change::Fire { place, .. } => self.reserve_queue(*place, count),
+            _ => Ok(()),
+        }
+    }
+
+    /// Makes the room that a list of changes needs, so that they can be made without memory.
+    pub(crate) fn make_room(&mut self, changes: &Queue<Change<P>>) -> Result<(), NoMemory>
+        requires agrees { Agrees self.old }
+        requires targets { HaveTargets (length self.old.sessions.items) changes.now }
+        ensures keeps { Keeps self.old self.new }
+        ensures charts { self.new.charts.items ≡ self.old.charts.items }
+        ensures ready { OnOk result (length changes.now ≤ self.new.ready.spare) }
+        ensures room { OnOk result (HaveRoom (length changes.now) self.new changes.now) }
+    {
+        let count = changes.len();
+        self.ready.reserve(count)?;
+        let mut place = 0;
+        while let Some(change) = changes.get(place) {
+            self.make_room_for(change, count)?;
+            place += 1;
+        }
+        Ok(())
+    }
+}

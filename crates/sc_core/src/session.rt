@@ -1,0 +1,56 @@
+ghost use Rattle.std.specs.Prelude.{◌≡◌, ◌++◌};
+ghost use Rattle.sc_core.specs.Cues.{is_ready};
+ghost use Rattle.sc_core.specs.Hosts.{is_live};
+ghost use Rattle.sc_core.specs.Bodies.{session_image};
+
+use sc_rooms::RoomyQueue;
+use sc_types::{Event, InvokerImage, Phase, SessionState};
+
+/// A session as the host's body holds it.
+#[derive(Debug, Drop)]
+pub struct Session {
+    pub(crate) state: SessionState,
+    /// The back part of the internal queue: what the host adds to it, for which the room is made first.
+    pub(crate) failures: RoomyQueue<Event>,
+    /// The external queue.
+    pub(crate) queued: RoomyQueue<Event>,
+    /// Whether the session is to be cancelled.
+    pub(crate) flagged: bool,
+    pub(crate) invoker: Option<InvokerImage>,
+    pub(crate) depth: u32,
+}
+
+/// Whether a session has a cue.
+pub(crate) fn is_ready(session: &Session) -> bool
+    ensures { result ≡ is_ready (session_image session.now) }
+{
+    match &session.state.phase {
+        Phase::Fresh => true,
+        Phase::Running => is_waited_for(session),
+        Phase::Ended(_) => false,
+    }
+}
+
+pub(crate) fn is_live(phase: &Phase) -> bool
+    ensures { result ≡ is_live phase.now }
+{
+    !matches!(phase, Phase::Ended(_))
+}
+
+/// Whether something waits for a session that runs.
+#[tactic(auto, using(crate::proofs::BodyLemmas::waits_in))]
+fn is_waited_for(session: &Session) -> bool
+    ensures { session.now.state.phase ≡ Phase.Running → result ≡ is_ready (session_image session.now) }
+{
+    session.state.internal.len() > 0
+        || session.failures.len() > 0
+        || session.flagged
+        || session.queued.len() > 0
+}
+
+/// Replaces a state.
+pub(crate) fn replace_state(old: &mut SessionState, state: SessionState)
+    ensures { old.new ≡ state }
+{
+    *old = state;
+}

@@ -1,0 +1,171 @@
+ghost use Rattle.std.specs.Prelude.{◌≡◌, ◌+◌, ◌^◌, ◌<◌, [], Ok, IfOk, false};
+ghost use Rattle.std.specs.Arc.{arc_value};
+ghost use Rattle.sc_core.specs.Bodies.{Agrees, image, session_image};
+ghost use Rattle.sc_core.specs.Commands.{fresh_session, has_slash, install, install_read, start};
+ghost use Rattle.sc_core.specs.Hosts.{has_chart, session_place};
+ghost use Rattle.sc_core.specs.Preparing.{Prepares};
+ghost use Rattle.sc_law.specs.LegalCharts.{legal_chart_of};
+ghost use Rattle.sc_law.specs.Runs.{fresh_state};
+
+use crate::body::{Body, InstalledChart};
+use crate::change::Change;
+use crate::charts::{plan_of, read_legal_chart};
+use crate::prepared::Prepared;
+use crate::session::Session;
+use sc_base::{Bytes, NoMemory, Plain, Queue, Sequence, Word};
+use sc_law::Engine;
+use sc_rooms::RoomyQueue;
+use sc_types::{ChartImage, ChartRefusal, NAME_LIMIT, Phase, Refusal, Reply, SessionState};
+use sc_valid::LegalChart;
+use std::alloc::Global;
+
+impl<P: Drop> Body<P> {
+    pub(crate) fn has_chart(&self, name: &Word) -> bool
+        requires agrees { Agrees self.now }
+        ensures { result ≡ has_chart (image self.now) name.now }
+    {
+        self.chart_place(name).is_some()
+    }
+
+    /// Prepares that a chart is installed.
+    pub(crate) fn draft_install<E: Engine<Plan = P>>(
+        &self,
+        alloc: Global,
+        e: &E,
+        name: &Word,
+        text: &Bytes,
+    ) -> Result<Prepared<P>, NoMemory>
+        requires agrees { Agrees self.now }
+        requires commands { self.now.commands + 1 < 2 ^ 64 }
+        ensures { IfOk result (Prepares (install (image self.now) name.now text.now) (image self.now)) }
+    {
+        if name.bytes().len() > NAME_LIMIT {
+            return Ok(Prepared::refused(alloc, Refusal::TooLong(2)));
+        }
+        if self.has_chart(name) {
+            return Ok(Prepared::refused(alloc, Refusal::NameTaken));
+        }
+        match read_legal_chart(alloc, text.slice()) {
+            Ok(chart) => self.draft_chart(alloc, e, name, text, chart),
+            Err(ChartRefusal::Fault(fault)) => Ok(Prepared::refused(
+                alloc,
+                Refusal::BadChart(fault),
+            )),
+            Err(ChartRefusal::NoMemory) => Err(NoMemory),
+        }
+    }
+
+    /// Prepares that the legal chart is installed which the text spells.
+    fn draft_chart<E: Engine<Plan = P>>(
+        &self,
+        alloc: Global,
+        e: &E,
+        name: &Word,
+        text: &Bytes,
+        chart: LegalChart,
+    ) -> Result<Prepared<P>, NoMemory>
+        requires agrees { Agrees self.now }
+        requires commands { self.now.commands + 1 < 2 ^ 64 }
+        requires new { has_chart (image self.now) name.now ≡ false }
+        ensures { IfOk result
+            (Prepares (install_read (image self.now) name.now text.now (Ok chart)) (image self.now)) }
+    {
+        let change = Change::Install {
+            name: name.copy()?,
+            chart: installed_chart(alloc, e, name, text, chart)?,
+        };
+        Prepared::accepted(alloc, Reply::Installed, change)
+    }
+
+    /// Prepares that a session is started.
+    pub(crate) fn draft_start(
+        &self,
+        alloc: Global,
+        session: &Word,
+        chart: &Word,
+    ) -> Result<Prepared<P>, NoMemory>
+        requires agrees { Agrees self.now }
+        requires commands { self.now.commands + 1 < 2 ^ 64 }
+        ensures { IfOk result (Prepares (start (image self.now) session.now chart.now) (image self.now)) }
+    {
+        if session.bytes().len() > NAME_LIMIT {
+            return Ok(Prepared::refused(alloc, Refusal::TooLong(1)));
+        }
+        if chart.bytes().len() > NAME_LIMIT {
+            return Ok(Prepared::refused(alloc, Refusal::TooLong(2)));
+        }
+        if has_slash(session.bytes()) {
+            return Ok(Prepared::refused(alloc, Refusal::BadName));
+        }
+        if !self.has_chart(chart) {
+            return Ok(Prepared::refused(alloc, Refusal::NoChart));
+        }
+        if self.session_place(session).is_some() {
+            return Ok(Prepared::refused(alloc, Refusal::NameTaken));
+        }
+        let change = Change::Start {
+            name: session.copy()?,
+            session: fresh_session(alloc, session, chart)?,
+        };
+        Prepared::accepted(alloc, Reply::Started, change)
+    }
+}
+
+/// The legal chart that the text spells, with its plan.
+fn installed_chart<E: Engine>(
+    alloc: Global,
+    e: &E,
+    name: &Word,
+    text: &Bytes,
+    chart: LegalChart,
+) -> Result<InstalledChart<E::Plan>, NoMemory>
+    ensures image { IfOk result (λ c. c.image ≡ record { name = name.now; text = text.now }) }
+    ensures plan { IfOk result (λ c. E.chart_of (arc_value c.plan) ≡ chart) }
+{
+    Ok(InstalledChart {
+        image: ChartImage {
+            name: name.copy()?,
+            text: text.copy()?,
+        },
+        plan: plan_of(alloc, e, chart)?,
+    })
+}
+
+fn has_slash(name: &[u8]) -> bool
+    ensures { result ≡ has_slash name.now }
+{
+    name.iter().any(|b| *b == b'/')
+}
+
+fn fresh_state(alloc: Global, session: &Word, chart: &Word) -> Result<SessionState, NoMemory>
+    ensures { IfOk result (λ s. s ≡ fresh_state session.now chart.now []) }
+{
+    Ok(SessionState {
+        session: session.copy()?,
+        chart: chart.copy()?,
+        phase: Phase::Fresh,
+        configuration: Sequence::new(alloc),
+        values: Sequence::new(alloc),
+        entered: Sequence::new(alloc),
+        histories: Sequence::new(alloc),
+        internal: Queue::new(alloc),
+        invokes: Sequence::new(alloc),
+        bound: None,
+        params: Sequence::new(alloc),
+        sends: 0,
+        born: 0,
+    })
+}
+
+fn fresh_session(alloc: Global, session: &Word, chart: &Word) -> Result<Session, NoMemory>
+    ensures { IfOk result (λ s. session_image s ≡ fresh_session session.now chart.now) }
+{
+    Ok(Session {
+        state: fresh_state(alloc, session, chart)?,
+        failures: RoomyQueue::new(alloc),
+        queued: RoomyQueue::new(alloc),
+        flagged: false,
+        invoker: None,
+        depth: 1,
+    })
+}

@@ -1,0 +1,9 @@
+pub mod Causes
+pub mod Generated
+pub mod Joined
+pub mod Lines
+pub mod Meanings
+pub mod Pairs
+pub mod Pieces
+pub mod Scripts
+pub mod Steps

@@ -1,0 +1,9 @@
+-- How the pieces of `Pairs` are found. Only contracts of private functions and proofs cite this.
+use Rattle.std.specs.Prelude.{ℕ, suc, if◌then◌else◌, List, [], ◌∷◌}
+use Rattle.sc_script.specs.Pairs.{is_gap, next_place}
+use Rattle.sc_script.specs.declared.pieces.Place.{Place}
+
+-- how many bytes stand before the first space between pairs
+unfoldable pub piece_len : Place → List ℕ → ℕ
+piece_len place [] = 0
+piece_len place (b ∷ rest) = if is_gap place b then 0 else suc (piece_len (next_place place b) rest)

@@ -1,0 +1,231 @@
+ghost use Rattle.std.specs.Prelude.{◌≡◌, Ok, Err, Some, IfOk};
+ghost use Rattle.std.specs.Str.{is_utf8};
+ghost use Rattle.sc_script.specs.declared.fault.Cause.{Cause};
+ghost use Rattle.sc_script.specs.Meanings.{chart_line, start_line, post_line, tick_line, cancel_line, client_line, form_word, form_of, said, words_say, meaning};
+
+use crate::fault::Cause;
+use crate::lines::without_return;
+use crate::names::word;
+use crate::pairs::read_pairs;
+use crate::words::{cut_word, trimmed};
+use sc_base::Failure;
+use sc_expr::number_of;
+use sc_types::{Bytes, Command, is_word};
+use std::alloc::Global;
+
+/// What the first word of a line says of its form.
+#[derive(Clone, Copy, Debug, PartialEq, Eq)]
+pub(crate) enum Form {
+    Post,
+    Start,
+    Chart,
+    Tick,
+    Cancel,
+    Client,
+    /// A line without words.
+    Blank,
+}
+
+/// What a line says.
+#[derive(Debug, Drop)]
+pub(crate) enum Meaning {
+    Blank,
+    /// The lines that follow belong to the next client.
+    Client,
+    Asks(Command),
+}
+
+const FORMS: [Form; 7] = [
+    Form::Post,
+    Form::Start,
+    Form::Chart,
+    Form::Tick,
+    Form::Cancel,
+    Form::Client,
+    Form::Blank,
+];
+
+/// The first word of the lines of a form.
+fn form_word(form: Form) -> &'static [u8]
+    ensures { result.now ≡ form_word form }
+{
+    match form {
+        Form::Post => b"post",
+        Form::Start => b"start",
+        Form::Chart => b"chart",
+        Form::Tick => b"tick",
+        Form::Cancel => b"cancel",
+        Form::Client => b"client",
+        Form::Blank => b"",
+    }
+}
+
+fn form_of(word: &[u8]) -> Option<Form>
+    ensures { result ≡ form_of word.now }
+{
+    FORMS.iter().copied().find(|form| word == form_word(*form))
+}
+
+fn is_utf8(text: &[u8]) -> bool
+    ensures { result ≡ is_utf8 text.now }
+{
+    match std::str::from_utf8(text) {
+        Ok(_) => true,
+        Err(_) => false,
+    }
+}
+
+/// What a line says.
+#[tactic(auto, unfolding(crate::specs::Meanings::meaning))]
+pub(crate) fn read_line(alloc: Global, line: &[u8]) -> Result<Meaning, Failure<Cause>>
+    ensures ok { IfOk result (λ m. meaning line.now ≡ Ok m) }
+    ensures fault { (cause : Cause) → result ≡ Err (Failure.Fault cause) → meaning line.now ≡ Err cause }
+{
+    if !is_utf8(line) {
+        return Err(Failure::Fault(Cause::NotUtf8));
+    }
+    read_words(alloc, trimmed(without_return(line)))
+}
+
+fn read_words(alloc: Global, words: &[u8]) -> Result<Meaning, Failure<Cause>>
+    ensures ok { IfOk result (λ m. words_say words.now ≡ Ok m) }
+    ensures fault { (cause : Cause) → result ≡ Err (Failure.Fault cause) → words_say words.now ≡ Err cause }
+{
+    let (first, rest) = cut_word(words);
+    match form_of(first) {
+        None => Err(Failure::Fault(Cause::UnknownWord)),
+        Some(form) => read_form(alloc, form, rest),
+    }
+}
+
+fn read_form(alloc: Global, form: Form, rest: &[u8]) -> Result<Meaning, Failure<Cause>>
+    ensures ok { IfOk result (λ m. said (Some form) rest.now ≡ Ok m) }
+    ensures fault { (cause : Cause) → result ≡ Err (Failure.Fault cause) → said (Some form) rest.now ≡ Err cause }
+{
+    let (first, behind) = cut_word(rest);
+    let (second, more) = cut_word(behind);
+    match form {
+        Form::Blank => Ok(Meaning::Blank),
+        Form::Chart => read_chart(alloc, first, behind),
+        Form::Start => read_start(alloc, first, second, more),
+        Form::Post => read_post(alloc, first, second, more),
+        Form::Tick => read_tick(first, behind),
+        Form::Cancel => read_cancel(alloc, first, behind),
+        Form::Client => read_client(rest),
+    }
+}
+
+/// `chart NAME JSON`. The JSON is not read as a chart here.
+fn read_chart(alloc: Global, name: &[u8], json: &[u8]) -> Result<Meaning, Failure<Cause>>
+    ensures ok { IfOk result (λ m. chart_line name.now json.now ≡ Ok m) }
+    ensures fault { (cause : Cause) → result ≡ Err (Failure.Fault cause) → chart_line name.now json.now ≡ Err cause }
+{
+    if json.is_empty() {
+        return Err(Failure::Fault(Cause::Missing));
+    }
+    if !is_word(name) {
+        return Err(Failure::Fault(Cause::BadWord));
+    }
+    let name = word(alloc, name)?;
+    let chart = Bytes::from_slice(alloc, json)?;
+    Ok(Meaning::Asks(Command::Install { name, chart }))
+}
+
+/// `start SESSION NAME`
+fn read_start(
+    alloc: Global,
+    session: &[u8],
+    chart: &[u8],
+    more: &[u8],
+) -> Result<Meaning, Failure<Cause>>
+    ensures ok { IfOk result (λ m. start_line session.now chart.now more.now ≡ Ok m) }
+    ensures fault { (cause : Cause) → result ≡ Err (Failure.Fault cause)
+        → start_line session.now chart.now more.now ≡ Err cause }
+{
+    if chart.is_empty() {
+        return Err(Failure::Fault(Cause::Missing));
+    }
+    if !more.is_empty() {
+        return Err(Failure::Fault(Cause::Extra));
+    }
+    if !is_word(session) || !is_word(chart) {
+        return Err(Failure::Fault(Cause::BadWord));
+    }
+    let session = word(alloc, session)?;
+    let chart = word(alloc, chart)?;
+    Ok(Meaning::Asks(Command::Start { session, chart }))
+}
+
+/// `post SESSION EVENT`, and then the pairs.
+fn read_post(
+    alloc: Global,
+    session: &[u8],
+    event: &[u8],
+    pairs: &[u8],
+) -> Result<Meaning, Failure<Cause>>
+    ensures ok { IfOk result (λ m. post_line session.now event.now pairs.now ≡ Ok m) }
+    ensures fault { (cause : Cause) → result ≡ Err (Failure.Fault cause)
+        → post_line session.now event.now pairs.now ≡ Err cause }
+{
+    if event.is_empty() {
+        return Err(Failure::Fault(Cause::Missing));
+    }
+    if !is_word(session) || !is_word(event) {
+        return Err(Failure::Fault(Cause::BadWord));
+    }
+    let pairs = read_pairs(alloc, pairs)?;
+    let session = word(alloc, session)?;
+    let event = word(alloc, event)?;
+    Ok(Meaning::Asks(Command::Post {
+        session,
+        event,
+        pairs,
+    }))
+}
+
+/// `tick NUMBER`
+fn read_tick(number: &[u8], more: &[u8]) -> Result<Meaning, Failure<Cause>>
+    ensures ok { IfOk result (λ m. tick_line number.now more.now ≡ Ok m) }
+    ensures fault { (cause : Cause) → result ≡ Err (Failure.Fault cause) → tick_line number.now more.now ≡ Err cause }
+{
+    if number.is_empty() {
+        return Err(Failure::Fault(Cause::Missing));
+    }
+    if !more.is_empty() {
+        return Err(Failure::Fault(Cause::Extra));
+    }
+    match number_of(number) {
+        Some(ticks) => Ok(Meaning::Asks(Command::Tick { ticks })),
+        None => Err(Failure::Fault(Cause::BadNumber)),
+    }
+}
+
+/// `cancel SESSION`
+fn read_cancel(alloc: Global, session: &[u8], more: &[u8]) -> Result<Meaning, Failure<Cause>>
+    ensures ok { IfOk result (λ m. cancel_line session.now more.now ≡ Ok m) }
+    ensures fault { (cause : Cause) → result ≡ Err (Failure.Fault cause)
+        → cancel_line session.now more.now ≡ Err cause }
+{
+    if session.is_empty() {
+        return Err(Failure::Fault(Cause::Missing));
+    }
+    if !more.is_empty() {
+        return Err(Failure::Fault(Cause::Extra));
+    }
+    if !is_word(session) {
+        return Err(Failure::Fault(Cause::BadWord));
+    }
+    let session = word(alloc, session)?;
+    Ok(Meaning::Asks(Command::Cancel { session }))
+}
+
+/// `client`
+fn read_client(more: &[u8]) -> Result<Meaning, Failure<Cause>>
+    ensures ok { IfOk result (λ m. client_line more.now ≡ Ok m) }
+    ensures fault { (cause : Cause) → result ≡ Err (Failure.Fault cause) → client_line more.now ≡ Err cause }
+{
+    if !more.is_empty() {
+        return Err(Failure::Fault(Cause::Extra));
+    }
+    Ok(Meaning::Client)
+}

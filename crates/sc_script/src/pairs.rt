@@ -1,0 +1,69 @@
+ghost use Rattle.std.specs.Prelude.{◌≡◌, ◌<◌, ◌==◌, Some, None, Ok, Err, IfOk, IfSome, length};
+ghost use Rattle.std.specs.List.{position};
+ghost use Rattle.sc_types.specs.Values.{literal_value};
+ghost use Rattle.sc_script.specs.declared.fault.Cause.{Cause};
+ghost use Rattle.sc_script.specs.Pairs.{named, pair_of, pairs_of};
+
+use crate::fault::Cause;
+use crate::names::plain_name;
+use crate::pieces::{count_pieces, cut_piece};
+use sc_base::Failure;
+use sc_expr::{ExprFault, read_value};
+use sc_types::{PairList, PlainName, Sequence, Value, is_plain_name};
+use std::alloc::Global;
+
+/// The pairs of a `post`; `BadValue` exactly where the text lists none.
+pub(crate) fn read_pairs(alloc: Global, text: &[u8]) -> Result<PairList, Failure<Cause>>
+    ensures ok { IfOk result (λ ps. pairs_of text.now ≡ Some ps) }
+    ensures fault { (cause : Cause) → result ≡ Err (Failure.Fault cause)
+        → (cause ≡ Cause.BadValue) × (pairs_of text.now ≡ None) }
+{
+    let mut pairs = Sequence::from_vec(Vec::with_capacity(alloc, count_pieces(text))?);
+    let mut rest = text;
+    while !rest.is_empty() {
+        let (piece, behind) = cut_piece(rest);
+        if !piece.is_empty() {
+            pairs.push(read_pair(alloc, piece)?)?;
+        }
+        rest = behind;
+    }
+    Ok(pairs)
+}
+
+/// The pair that a piece is.
+fn read_pair(alloc: Global, text: &[u8]) -> Result<(PlainName, Value), Failure<Cause>>
+    ensures ok { IfOk result (λ p. pair_of text.now ≡ Some p) }
+    ensures fault { (cause : Cause) → result ≡ Err (Failure.Fault cause)
+        → (cause ≡ Cause.BadValue) × (pair_of text.now ≡ None) }
+{
+    match place_of(text, b'=') {
+        None => Err(Failure::Fault(Cause::BadValue)),
+        Some(place) => read_named(alloc, &text[..place], &text[place + 1..]),
+    }
+}
+
+fn place_of(text: &[u8], byte: u8) -> Option<usize>
+    ensures value { result ≡ position (λ b. b == byte) text.now }
+    ensures within { IfSome result (λ place. place < length text.now) }
+{
+    text.iter().position(|b| *b == byte)
+}
+
+fn read_named(
+    alloc: Global,
+    name: &[u8],
+    literal: &[u8],
+) -> Result<(PlainName, Value), Failure<Cause>>
+    ensures ok { IfOk result (λ p. named name.now (literal_value literal.now) ≡ Some p) }
+    ensures fault { (cause : Cause) → result ≡ Err (Failure.Fault cause)
+        → (cause ≡ Cause.BadValue) × (named name.now (literal_value literal.now) ≡ None) }
+{
+    if !is_plain_name(name) {
+        return Err(Failure::Fault(Cause::BadValue));
+    }
+    match read_value(alloc, literal) {
+        Ok(value) => Ok((plain_name(alloc, name)?, value)),
+        Err(ExprFault::NotExpr) => Err(Failure::Fault(Cause::BadValue)),
+        Err(ExprFault::NoMemory) => Err(Failure::NoMemory),
+    }
+}
