@@ -86,8 +86,17 @@ counted_held old new g h more held charts commands events keeps few fits image p
       plans = same-plans old new (same ∙ keeps.charts ∙ charts) plans held;
       sessions = subst (λ (x : HostImage). All (FitsChart x) x.sessions) (sym image)
           (λ i d l. fits-same h done (get_or h.sessions i d) refl (fits i d l));
-      numbers = omega (arith, held.numbers, few, keeps.events, keeps.commands, events, commands,
-          ap (λ (x : HostImage). x.events) image, ap (λ (x : HostImage). x.commands) image);
+      numbers = omega (
+        arith,
+        held.numbers,
+        few,
+        keeps.events,
+        keeps.commands,
+        events,
+        commands,
+        ap (λ (x : HostImage). x.events) image,
+        ap (λ (x : HostImage). x.commands) image,
+      );
     }
 
 -- sending what came due, once the clock is set and it has left the pending sends

@@ -52,19 +52,19 @@ returns c =
     let after = ap (λ x. x.0) c.into_parts-after.ensures.value in
     let effects = ap (λ x. x.1) c.into_parts-after.ensures.value in
     let is_put : put ≡ put_in s cue turn_given =
-        c.put_in.ensures ∙ ap (λ (x : SessionImage). record x { state = parts.0; queued = queue_left cue x.queued }) item
-        ∙ ap (λ a. record s { state = a; queued = queue_left cue s.queued }) after in
+    c.put_in.ensures ∙ ap (λ (x : SessionImage). record x { state = parts.0; queued = queue_left cue x.queued }) item
+    ∙ ap (λ a. record s { state = a; queued = queue_left cue s.queued }) after in
     let carried = deliver_all g1 place parts.1 in
     let told : carried ≡ deliver_all (with_session g place (put_in s cue turn_given)) place t.effects =
-        ap (λ x. deliver_all (with_session g place x) place parts.1) is_put
-        ∙ ap (deliver_all (with_session g place (put_in s cue turn_given)) place) effects in
+    ap (λ x. deliver_all (with_session g place x) place parts.1) is_put
+    ∙ ap (deliver_all (with_session g place (put_in s cue turn_given)) place) effects in
     let sent = c.in_ok-sent.ensures in
     let last = c.end_at.ensures.image ∙ ap (λ x. end_at x place) sent.image in
     let is = step_taken g c.args.session.now place s cue found has ∙ ap (step_turn g place s cue) given in
     let kept = step_keeps g1 place parts.1 in
     let fits = step_fits g1 place parts.1 (put_fits g place s put c.in-Some.ensures.at c.requires.held.sessions
-        (stepped-fits g s put cue t c.in_ok-turned.ensures.turn c.into_parts-after.ensures.turn c.in_ok-turned.ensures.fits
-        (ap (λ (x : SessionImage). x.state) is_put))) in
+    (stepped-fits g s put cue t c.in_ok-turned.ensures.turn c.into_parts-after.ensures.turn c.in_ok-turned.ensures.fits
+    (ap (λ (x : SessionImage). x.state) is_put))) in
     record {
       answer = answers_as (step_turn g place s cue turn_given) (step g (session_named g c.args.session.now)) _ _ is (record {
         host = ap (λ (h : HostImage). record h { commands = h.commands + 1 })
