@@ -207,7 +207,7 @@ given_kept done g e a (refuses why is) told h =
     subst (λ (x : Answer). AllWereGiven (done ++ e ∷ []) x.host) (sym is) (all_given_later done e g h)
 given_kept done g e a (installs name text chart command legal is) told h =
     subst (λ (x : Answer). AllWereGiven (done ++ e ∷ []) x.host) (sym is) (all_given_later done e g h)
-given_kept done g e a (starts session chart command new is) told h =
+given_kept done g e a (starts session chart command has new is) told h =
     subst (λ (x : Answer). AllWereGiven (done ++ e ∷ []) x.host) (sym is)
     (all_push (QueueWasGiven (done ++ e ∷ [])) g.sessions _ (all_given_later done e g h) tt)
 given_kept done g e a (posts session name pairs place s command found is) told h =
@@ -218,7 +218,7 @@ given_kept done g e a (posts session name pairs place s command found is) told h
     subst (λ (x : Answer). AllWereGiven (done ++ e ∷ []) x.host) (sym is)
     (queue_given (done ++ e ∷ []) g place s (posted_event name pairs) at.there
     (subst (λ n. IsGift (done ++ e ∷ []) (g.events + 1, n)) (sym at.named) gift) (all_given_later done e g h))
-given_kept done g e a (ticks n now command is) told h =
+given_kept done g e a (ticks n now command within is) told h =
     let sent = (fire_all (ticked g now) (due_in g now)).sent in
     let tells = told_gifts done e sent (told.sent ∙ ap (λ (x : Answer). x.sent) is) in
     subst (λ (x : Answer). AllWereGiven (done ++ e ∷ []) x.host) (sym is)
@@ -278,9 +278,9 @@ consumed_given done g e a (refuses why is) told h =
     subst (λ r. IsGivenIn done (consumed_in e.command r)) (sym (told.reply ∙ ap (λ (x : Answer). x.reply) is))
     (refused_given done e.command why)
 consumed_given done g e a (installs name text chart command legal is) told h = none_given done e _ command tt
-consumed_given done g e a (starts session chart command new is) told h = none_given done e _ command tt
+consumed_given done g e a (starts session chart command has new is) told h = none_given done e _ command tt
 consumed_given done g e a (posts session name pairs place s command found is) told h = none_given done e _ command tt
-consumed_given done g e a (ticks n now command is) told h = none_given done e _ command tt
+consumed_given done g e a (ticks n now command within is) told h = none_given done e _ command tt
 consumed_given done g e a (cancels session place s command found is) told h = none_given done e _ command tt
 consumed_given done g e a (turns session place s c command found has is) told h =
     let at = is_at g session place s found in

@@ -11,5 +11,6 @@ pub mod Once
 pub mod PrepareLemmas
 pub mod RoomLemmas
 pub mod SetLemmas
+pub mod SoundLemmas
 pub mod TurnLemmas
 pub mod WeightLemmas

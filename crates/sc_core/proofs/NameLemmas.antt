@@ -192,13 +192,13 @@ pub distinct_kept : (g : HostImage) (c : Command) (a : Answer) → Change g c a 
 distinct_kept g c a (refuses why is) h = subst (λ (x : Answer). AreDistinct x.host.sessions) (sym is) h
 distinct_kept g c a (installs name text chart command legal is) h =
     subst (λ (x : Answer). AreDistinct x.host.sessions) (sym is) h
-distinct_kept g c a (starts session chart command new is) h =
+distinct_kept g c a (starts session chart command has new is) h =
     subst (λ (x : Answer). AreDistinct x.host.sessions) (sym is)
     (distinct_push g.sessions (fresh_session session chart) (none_named session g.sessions new) h)
 distinct_kept g c a (posts session name pairs place s command found is) h =
     subst (λ (x : Answer). AreDistinct x.host.sessions) (sym is)
     (distinct_set g.sessions place s _ (is_at g session place s found).there refl h)
-distinct_kept g c a (ticks n now command is) h =
+distinct_kept g c a (ticks n now command within is) h =
     subst (λ (x : Answer). AreDistinct x.host.sessions) (sym is)
     (distinct_moves (ticked g now) _ _ (all_fire (ticked g now) (due_in g now)) h)
 distinct_kept g c a (cancels session place s command found is) h =

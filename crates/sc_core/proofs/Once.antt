@@ -194,7 +194,7 @@ few_kept n done g e a (installs name text chart command legal is) told few =
     subst (λ (x : Answer). IsFew n (done + taken n e) x.host) (sym is)
     (counted_few n _ (with_chart g name text) (g.commands + 1)
     (charted_few n _ g name text (none_taken n done g e (ap (λ c. consumed_in c e.reply) command) few)))
-few_kept n done g e a (starts session chart command new is) told few =
+few_kept n done g e a (starts session chart command has new is) told few =
     let f = λ (x : SessionImage). in_queue n x.queued in
     let grown : waiting n (with_fresh g session chart) ≡ waiting n g = sum_by_push f g.sessions _ ∙ omega arith in
     let before = none_taken n done g e (ap (λ c. consumed_in c e.reply) command) few in
@@ -206,7 +206,7 @@ few_kept n done g e a (posts session name pairs place s command found is) told f
     let before = none_taken n done g e (ap (λ c. consumed_in c e.reply) command) few in
     subst (λ (x : Answer). IsFew n (done + taken n e) x.host) (sym is)
     (counted_few n _ _ _ (queue_few n _ g place s (posted_event name pairs) (is_at g session place s found).there before))
-few_kept n done g e a (ticks k now command is) told few =
+few_kept n done g e a (ticks k now command within is) told few =
     let before = none_taken n done g e (ap (λ c. consumed_in c e.reply) command) few in
     let later = few_moved n _ g (ticked g now) [] (still refl refl refl refl refl) before in
     subst (λ (x : Answer). IsFew n (done + taken n e) x.host) (sym is)
