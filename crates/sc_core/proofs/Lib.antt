@@ -1,3 +1,4 @@
+pub mod AimLemmas
 pub mod BodyLemmas
 pub mod ChangeLemmas
 pub mod FitLemmas

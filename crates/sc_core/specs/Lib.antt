@@ -1,3 +1,4 @@
+pub mod Aims
 pub mod Bodies
 pub mod Changes
 pub mod Commands

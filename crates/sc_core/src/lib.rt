@@ -3,6 +3,7 @@
 #![tactic(auto)]
 
 mod additions;
+mod aims;
 mod body;
 mod change;
 mod changes;

@@ -1,0 +1,1 @@
+-- Where an event goes, and that deliveries change nothing of that.
