@@ -107,7 +107,7 @@ fits-same g h s e f = record {
 pub fresh-fits : (g : HostImage) (session chart : List ℕ) → has_chart g chart ≡ true → FitsChart g (fresh_session session chart)
 fresh-fits g session chart h = record { chart = h; fits = λ live. fresh refl }
 
-live-runs : (p : Phase) → IsPast p → is_live p ≡ true → p ≡ phase.Running
+pub live-runs : (p : Phase) → IsPast p → is_live p ≡ true → p ≡ phase.Running
 live-runs phase.Fresh past live = absurd past
 live-runs phase.Running past live = refl
 live-runs (phase.Ended how) past live = absurd (cc)

@@ -1,6 +1,9 @@
 pub mod AimLemmas
+pub mod AppendLemmas
 pub mod BodyLemmas
 pub mod ChangeLemmas
+pub mod CountLemmas
+pub mod DraftLemmas
 pub mod FitLemmas
 pub mod FoundLemmas
 pub mod GivenLemmas
@@ -13,5 +16,7 @@ pub mod PrepareLemmas
 pub mod RoomLemmas
 pub mod SetLemmas
 pub mod SoundLemmas
+pub mod TickLemmas
 pub mod TurnLemmas
+pub mod TurnedLemmas
 pub mod WeightLemmas

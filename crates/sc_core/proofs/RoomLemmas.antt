@@ -113,14 +113,14 @@ pub record MakesRoom {P : Type 0} (whole : List (Change P)) (n place : ℕ) (h k
   pub rest : (m : Body P) → Keeps k m → HaveRoom n m (drop place whole) → HaveRoom n m whole
   pub targets : HaveTargets (length h.sessions.items) (drop place whole)
 
-drop_at : {X : Type 0} (xs : List X) (i : ℕ) (x : X) → slice_get xs i ≡ Some x → drop i xs ≡ x ∷ drop (i + 1) xs
+pub drop_at : {X : Type 0} (xs : List X) (i : ℕ) (x : X) → slice_get xs i ≡ Some x → drop i xs ≡ x ∷ drop (i + 1) xs
 drop_at [] i x at = absurd cc
 drop_at (y ∷ ys) zero x at = let is : y ≡ x = cc in ap (λ z. z ∷ ys) is
 drop_at (y ∷ ys) (suc i) x at =
     let next : suc (i + 1) ≡ suc i + 1 = omega arith in
     drop_at ys i x at ∙ ap (λ n. x ∷ drop n (y ∷ ys)) next
 
-drop_past : {X : Type 0} (xs : List X) (i : ℕ) → slice_get xs i ≡ None → drop i xs ≡ []
+pub drop_past : {X : Type 0} (xs : List X) (i : ℕ) → slice_get xs i ≡ None → drop i xs ≡ []
 drop_past [] zero at = refl
 drop_past [] (suc i) at = refl
 drop_past (y ∷ ys) zero at = absurd cc

@@ -1,5 +1,5 @@
 -- What is always true of the host machine is true of it after each command.
-use Rattle.std.proofs.Common.{◌≡◌, ℕ, ◌+◌, ◌-◌, ◌*◌, ◌^◌, ◌≤◌, ◌++◌, ◌==◌, ◌&&◌, All, Bool, true, false, not, if◌then◌else◌, filter, nat_lt, Option, Some, None, List, [], ◌∷◌, length, get_or, slice_get, refl, sym, ap, subst, ◌∙◌, arith}
+use Rattle.std.proofs.Common.{◌≡◌, ℕ, suc, ◌+◌, ◌-◌, ◌*◌, ◌^◌, ◌≤◌, ◌++◌, ◌==◌, ◌&&◌, All, Bool, true, false, not, if◌then◌else◌, filter, nat_lt, Option, Some, None, List, [], ◌∷◌, length, get_or, slice_get, refl, sym, ap, subst, ◌∙◌, arith}
 use Rattle.std.specs.Option.{option_map_or}
 use Rattle.std.proofs.lemmas.List.Elements.{All-cons, All-filter, All-head, All-push, All-set, All-tail}
 use Rattle.sc_types.specs.Sends.{is_before, is_of, is_send, with_send}
@@ -23,18 +23,16 @@ use Rattle.sc_law.specs.Turn.{turn}
 use Rattle.sc_core.specs.Commands.{Answer, advance, answer, fresh_session, posted_event, put_in}
 use Rattle.sc_core.specs.Cues.{cue_of}
 use Rattle.sc_core.specs.Deliveries.{Delivered, deliver, deliver_all, deliver_of, delay_send, due_time, end_at, end_in, fire, fire_all, hears, is_cut_from, is_due, left_as, next_send, queue, receiver_name, send_found, send_named, send_now, undo, unreachable, while_live}
+use Rattle.sc_core.specs.Drafts.{AreNumbered}
 use Rattle.sc_core.specs.FittingHosts.{FitsChart}
 use Rattle.sc_core.specs.Hosts.{chart_named, has_chart, is_live, is_running, session_named, with_session}
 use Rattle.sc_core.specs.HostStates.{IsSound}
+use Rattle.sc_core.specs.Preparing.{FitsOn, StepFits}
 use Rattle.sc_core.proofs.ChangeLemmas.{Change, cancels, change_of, installs, posts, refuses, starts, ticks, turns, with_chart, with_fresh}
 use Rattle.sc_core.proofs.FitLemmas.{fits-at, fits-more, fits-same, fresh-fits, live-runs}
 use Rattle.sc_core.proofs.FoundLemmas.{is_at}
 use Rattle.sc_core.proofs.MoveLemmas.{all_events, all_fire, all_move, charts_moved, charts_moves, commands_moved, commands_moves, due_in, end_moves, events_moved, fire_events, fits_moved, fits_moves, puts, queues, same, ticked}
 use Rattle.sc_core.proofs.TurnLemmas.{turn-of, turn-past}
-
--- each pending send has a number that was given out
-abbrev pub AreNumbered : HostImage → Type 0
-AreNumbered g = All (λ (t : TimerImage). t.number ≤ g.delayed) g.timers
 
 -- the clock stands, and the pending sends keep their numbers
 pub record IsSteady (g h : HostImage) : Type 0 where
@@ -48,13 +46,14 @@ stays g = record { clock = refl; sends = λ all. all }
 pub with_numbered : (n : ℕ) (t : TimerImage) (ts : List TimerImage) → t.number ≤ n
     → All (λ (s : TimerImage). s.number ≤ n) ts → All (λ (s : TimerImage). s.number ≤ n) (with_send t ts)
 with_numbered n t [] own all = All-cons (λ (s : TimerImage). s.number ≤ n) t [] own all
-with_numbered n t (s ∷ ss) own all = by (is_before t s) where
-  P : TimerImage → Type 0
-  P x = x.number ≤ n
+with_numbered n t (s ∷ ss) own all =
+    by (is_before t s) (with_numbered n t ss own (All-tail (λ (x : TimerImage). x.number ≤ n) s ss all)) where
+      P : TimerImage → Type 0
+      P x = x.number ≤ n
 
-  by : (b : Bool) → All P (if b then t ∷ s ∷ ss else s ∷ with_send t ss)
-  by true = All-cons P t (s ∷ ss) own all
-  by false = All-cons P s (with_send t ss) (All-head P s ss all) (with_numbered n t ss own (All-tail P s ss all))
+      by : (b : Bool) → All P (with_send t ss) → All P (if b then t ∷ s ∷ ss else s ∷ with_send t ss)
+      by true rest = All-cons P t (s ∷ ss) own all
+      by false rest = All-cons P s (with_send t ss) (All-head P s ss all) rest
 
 -- and so it is after the number of the newest is counted
 pub next_numbered : (g : HostImage) (t : TimerImage) → t.number ≤ g.delayed + 1 → AreNumbered g
@@ -167,20 +166,11 @@ end_steady g place = by (slice_get g.sessions place) where
 
 fired_many : (g : HostImage) (ts : List TimerImage) → length (fire_all g ts).sent ≡ length ts
 fired_many g [] = refl
-fired_many g (t ∷ ts) = ap (λ n. 1 + n) (fired_many (fire g t).host ts)
+fired_many g (t ∷ ts) = ap suc (fired_many (fire g t).host ts)
 
 delivered_many : (g : HostImage) (place : ℕ) (effects : List Effect) → length (deliver_all g place effects).sent ≡ length effects
 delivered_many g place [] = refl
-delivered_many g place (effect ∷ effects) = ap (λ n. 1 + n) (delivered_many (deliver g place effect).host place effects)
-
--- a session that goes on after its turn fits its chart, which the definition of a turn says and an engine tells
-pub record FitsOn (g : HostImage) (s : SessionImage) (cue : Cue) : Type 0 where
-  pub fits : (turn (chart_named g s.state.chart) s.state cue).after.phase ≡ phase.Running
-      → Fits (chart_named g s.state.chart) (turn (chart_named g s.state.chart) s.state cue).after
-
-pub StepFits : HostImage → Command → Type 0
-StepFits g c = (session : List ℕ) (place : ℕ) (s : SessionImage) (cue : Cue) → c ≡ Step session
-    → session_named g session ≡ Some (place, s) → cue_of s ≡ Some cue → FitsOn g s cue
+delivered_many g place (effect ∷ effects) = ap suc (delivered_many (deliver g place effect).host place effects)
 
 -- the host with the command counted
 counted : (h : HostImage) → All (FitsChart h) h.sessions → AreNumbered h → h.events ≤ (h.commands + 1) * 2 ^ 64

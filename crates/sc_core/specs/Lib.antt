@@ -2,12 +2,16 @@ pub mod Aims
 pub mod Bodies
 pub mod Changes
 pub mod Commands
+pub mod Counting
 pub mod Cues
 pub mod Deliveries
+pub mod Drafts
 pub mod FittingHosts
 pub mod Histories
 pub mod Hosts
 pub mod Installing
 pub mod Preparing
+pub mod Stepping
+pub mod Ticking
 pub mod Holding
 pub mod HostStates

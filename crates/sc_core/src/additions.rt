@@ -116,7 +116,7 @@ impl<P: Drop> Body<P> {
 }
 
 /// An event with the id of an invocation, where one is given.
-fn with_invokeid(mut event: Event, invokeid: Option<SmallBytes>) -> Event
+pub(crate) fn with_invokeid(mut event: Event, invokeid: Option<SmallBytes>) -> Event
     ensures { result ≡ with_invokeid event invokeid }
 {
     if let Some(id) = invokeid {

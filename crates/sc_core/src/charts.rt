@@ -12,7 +12,7 @@ use std::alloc::Global;
 use std::sync::Arc;
 
 /// The legal chart that a text spells, or the text's first fault.
-pub(crate) fn read_legal_chart(alloc: Global, text: &[u8]) -> Result<LegalChart, ChartRefusal>
+pub fn read_legal_chart(alloc: Global, text: &[u8]) -> Result<LegalChart, ChartRefusal>
     ensures chart { IfOk result (λ c. legal_chart_of text.now ≡ Ok c) }
     ensures fault { (f : ChartFault) → result ≡ Err (ChartRefusal.Fault f) → legal_chart_of text.now ≡ Err f }
 {

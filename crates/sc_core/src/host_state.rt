@@ -17,7 +17,8 @@ use std::marker::Model;
 /// A change costs what it changes, whatever the host holds beside.
 #[derive(Drop)]
 pub struct HostState<E: Engine> {
-    body: Body<E::Plan>,
+    pub(crate) body: Body<E::Plan>,
+    pub(crate) alloc: Global,
 }
 
 impl<E: Engine> Model for HostState<E> {
@@ -42,6 +43,7 @@ impl<E: Engine> HostState<E> {
     {
         HostState {
             body: Body::new(alloc),
+            alloc,
         }
     }
 
@@ -53,7 +55,7 @@ impl<E: Engine> HostState<E> {
     }
 
     /// How many commands were accepted.
-    pub fn count(&self) -> u64
+    pub fn commands(&self) -> u64
         ensures { result ≡ self.now.image.commands }
     {
         self.body.commands
@@ -93,7 +95,7 @@ impl<E: Engine> HostState<E> {
     }
 
     /// Makes the room that prepared changes need. Out of memory, the host machine is as before.
-    fn with_room(&mut self, prepared: Prepared<E::Plan>) -> Result<Prepared<E::Plan>, NoMemory>
+    pub(crate) fn with_room(&mut self, prepared: Prepared<E::Plan>) -> Result<Prepared<E::Plan>, NoMemory>
         requires can { CanMake E.chart_of self.old.image prepared.changes }
         ensures image { self.new.image ≡ self.old.image }
         ensures prepared { IfOk result (λ p. p ≡ prepared) }

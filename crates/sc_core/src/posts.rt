@@ -2,7 +2,7 @@ ghost use Rattle.std.specs.Prelude.{◌≡◌, ◌+◌, ◌^◌, ◌<◌, Some, 
 ghost use Rattle.sc_core.specs.Bodies.{Agrees, image, session_image};
 ghost use Rattle.sc_core.specs.Commands.{cancel, post, posted_event};
 ghost use Rattle.sc_core.specs.Hosts.{session_named};
-ghost use Rattle.sc_core.specs.Preparing.{Prepares};
+ghost use Rattle.sc_core.specs.Preparing.{InstallNone, Prepares};
 ghost use Rattle.sc_law.specs.Runs.{pairs_data};
 
 use crate::body::Body;
@@ -39,8 +39,9 @@ impl<P: Drop> Body<P> {
         requires agrees { Agrees self.now }
         requires commands { self.now.commands + 1 < 2 ^ 64 }
         requires events { self.now.events + 1 < 2 ^ 128 }
-        ensures { IfOk result
+        ensures answer { IfOk result
             (Prepares (post (image self.now) session.now name.now pairs.now) (image self.now)) }
+        ensures none { IfOk result (λ p. InstallNone p.changes) }
     {
         if name.bytes().len() > EVENT_NAME_LIMIT {
             return Ok(Prepared::refused(alloc, Refusal::TooLong(3)));
@@ -70,8 +71,9 @@ impl<P: Drop> Body<P> {
     ) -> Result<Prepared<P>, NoMemory>
         requires agrees { Agrees self.now }
         requires commands { self.now.commands + 1 < 2 ^ 64 }
-        ensures { IfOk result
+        ensures answer { IfOk result
             (Prepares (cancel (image self.now) (session_named (image self.now) session.now)) (image self.now)) }
+        ensures none { IfOk result (λ p. InstallNone p.changes) }
     {
         let Some((place, found)) = self.session_named(session) else {
             return Ok(Prepared::refused(alloc, Refusal::NoSession));

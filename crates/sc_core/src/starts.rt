@@ -3,7 +3,8 @@ ghost use Rattle.std.specs.Arc.{arc_value};
 ghost use Rattle.sc_core.specs.Bodies.{Agrees, image, session_image};
 ghost use Rattle.sc_core.specs.Commands.{fresh_session, has_slash, install, install_read, start};
 ghost use Rattle.sc_core.specs.Hosts.{has_chart, session_place};
-ghost use Rattle.sc_core.specs.Preparing.{Prepares};
+ghost use Rattle.sc_core.specs.HostStates.{ArePlanned};
+ghost use Rattle.sc_core.specs.Preparing.{InstallNone, Prepares};
 ghost use Rattle.sc_law.specs.LegalCharts.{legal_chart_of};
 ghost use Rattle.sc_law.specs.Runs.{fresh_state};
 
@@ -37,7 +38,8 @@ impl<P: Drop> Body<P> {
     ) -> Result<Prepared<P>, NoMemory>
         requires agrees { Agrees self.now }
         requires commands { self.now.commands + 1 < 2 ^ 64 }
-        ensures { IfOk result (Prepares (install (image self.now) name.now text.now) (image self.now)) }
+        ensures answer { IfOk result (Prepares (install (image self.now) name.now text.now) (image self.now)) }
+        ensures plans { IfOk result (λ p. ArePlanned E.chart_of p.changes) }
     {
         if name.bytes().len() > NAME_LIMIT {
             return Ok(Prepared::refused(alloc, Refusal::TooLong(2)));
@@ -67,8 +69,10 @@ impl<P: Drop> Body<P> {
         requires agrees { Agrees self.now }
         requires commands { self.now.commands + 1 < 2 ^ 64 }
         requires new { has_chart (image self.now) name.now ≡ false }
-        ensures { IfOk result
+        requires chart { legal_chart_of text.now ≡ Ok chart }
+        ensures answer { IfOk result
             (Prepares (install_read (image self.now) name.now text.now (Ok chart)) (image self.now)) }
+        ensures plans { IfOk result (λ p. ArePlanned E.chart_of p.changes) }
     {
         let change = Change::Install {
             name: name.copy()?,
@@ -86,7 +90,8 @@ impl<P: Drop> Body<P> {
     ) -> Result<Prepared<P>, NoMemory>
         requires agrees { Agrees self.now }
         requires commands { self.now.commands + 1 < 2 ^ 64 }
-        ensures { IfOk result (Prepares (start (image self.now) session.now chart.now) (image self.now)) }
+        ensures answer { IfOk result (Prepares (start (image self.now) session.now chart.now) (image self.now)) }
+        ensures none { IfOk result (λ p. InstallNone p.changes) }
     {
         if session.bytes().len() > NAME_LIMIT {
             return Ok(Prepared::refused(alloc, Refusal::TooLong(1)));

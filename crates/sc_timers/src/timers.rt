@@ -79,6 +79,13 @@ impl Timers {
         self.spare -= 1;
     }
 
+    /// How many sends are pending.
+    pub fn len(&self) -> usize
+        ensures { result ≡ length self.now.sends }
+    {
+        self.kept.due.len()
+    }
+
     /// How many sends of a session have an id. What it costs depends on the sends of that session.
     pub fn count(&self, session: &[u8], id: &[u8]) -> u64
         ensures { result ≡ count_by (is_send session.now id.now) self.now.sends }

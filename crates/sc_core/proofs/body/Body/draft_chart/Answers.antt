@@ -8,8 +8,8 @@ use Rattle.sc_core.specs.declared.change.Change.TheVariants.{Install}
 use Rattle.sc_core.proofs.PrepareLemmas.{accepts_ok, no_chart}
 use Rattle.sc_core.proofs.body.Body.draft_chart.Goals as goal
 
-pub returns : goal.returns
-returns g c =
+pub returns-clause-answer : goal.returns-clause-answer
+returns-clause-answer g c =
     let h = c.args.self.now in
     let made = c.in_ok-installed_chart.ensures.image in
     let named = c.in_ok-copy.ensures in

@@ -1,0 +1,195 @@
+-- What is prepared of a step is the step.
+use Rattle.std.proofs.Common.{◌≡◌, ℕ, ◌+◌, ◌^◌, ◌<◌, ◌≤◌, ◌++◌, zero, suc, All, Option, Some, None, List, [], ◌∷◌, drop, length, map, option_map, slice_get, slice_set, refl, sym, ap, subst, ◌∙◌, arith}
+use Rattle.std.specs.List.{AllByRecursion}
+use Rattle.std.specs.Option.{option_map_or}
+use Rattle.std.proofs.lemmas.List.{append_assoc, length-set, map-set}
+use Rattle.std.proofs.lemmas.Option.{slice_get_within}
+use Rattle.sc_types.specs.declared.chart.Chart.{Chart}
+use Rattle.sc_types.specs.declared.event.Event.{Event}
+use Rattle.sc_types.specs.declared.history.Delivery.{Delivery}
+use Rattle.sc_types.specs.declared.host.HostImage.{HostImage}
+use Rattle.sc_types.specs.declared.host.SessionImage.{SessionImage}
+use Rattle.sc_types.specs.declared.session.Cue.{Cue}
+use Rattle.sc_types.specs.declared.session.Cue.TheVariants.{Cancel, External, Fresh, Resume}
+use Rattle.sc_types.specs.declared.session.SessionState.{SessionState}
+use Rattle.sc_law.specs.Turn.{TurnResult}
+use Rattle.sc_core.specs.Aims.{outline, outlines}
+use Rattle.sc_core.specs.Changes.{put_state, take_front}
+use Rattle.sc_core.specs.Commands.{put_in, step_turn}
+use Rattle.sc_core.specs.Deliveries.{deliver, deliver_all, end_at}
+use Rattle.sc_core.specs.Drafts.{AreNumbered, DraftsAll, Follows, IsBase, IsDraft, IsOfStep, IsSender, Notes, so_far}
+use Rattle.sc_core.specs.Hosts.{with_session}
+use Rattle.sc_core.specs.HostStates.{ArePlanned}
+use Rattle.sc_core.specs.Installing.{CanApply, CanApplyAll, HasTarget, HaveTargets, apply, installed}
+use Rattle.sc_core.specs.Preparing.{InstallNone, Prepares}
+use Rattle.sc_core.specs.Stepping.{put_changes, taken_front}
+use Rattle.sc_core.specs.declared.change.Change.{Change}
+use Rattle.sc_core.specs.declared.change.Change.TheVariants.{Advance, Count, Delay, End, Fire, Flag, Install, Lose, PutState, Queue, Start, TakeFront, Tell, Undo}
+use Rattle.sc_core.specs.declared.draft.Draft.{Draft}
+use Rattle.sc_core.specs.declared.prepared.Prepared.{Prepared}
+use Rattle.sc_core.proofs.AimLemmas.{set_here}
+use Rattle.sc_core.proofs.DraftLemmas.{within_outlines}
+use Rattle.sc_core.proofs.MoveLemmas.{commands_moved, end_moves}
+
+-- ---- several changes more
+
+installed_append : {P : Type 0} (cs ds : List (Change P)) (g : HostImage) → installed (cs ++ ds) g ≡ installed ds (installed cs g)
+installed_append [] ds g = refl
+installed_append (c ∷ cs) ds g = installed_append cs ds (apply c g)
+
+can_append : {P : Type 0} (cs ds : List (Change P)) (g : HostImage) → CanApplyAll g cs → CanApplyAll (installed cs g) ds
+    → CanApplyAll g (cs ++ ds)
+can_append [] ds g can more = more
+can_append (c ∷ cs) ds g can more = (can.0, can_append cs ds (apply c g) can.1 more)
+
+targets_append : {P : Type 0} (n : ℕ) (cs ds : List (Change P)) → HaveTargets n cs → HaveTargets n ds → HaveTargets n (cs ++ ds)
+targets_append n [] ds targets more = more
+targets_append n (c ∷ cs) ds targets more = (targets.0, targets_append n cs ds targets.1 more)
+
+-- ---- the state after the turn is put in
+
+set_twice : {X : Type 0} (xs : List X) (i : ℕ) (x y : X) → slice_set (slice_set xs i x) i y ≡ slice_set xs i y
+set_twice [] i x y = refl
+set_twice (z ∷ zs) zero x y = refl
+set_twice (z ∷ zs) (suc i) x y = ap (λ rest. z ∷ rest) (set_twice zs i x y)
+
+put_is : (g : HostImage) (place : ℕ) (s : SessionImage) (after : SessionState) → slice_get g.sessions place ≡ Some s
+    → put_state g place after ≡ with_session g place (record s { state = after })
+put_is g place s after there =
+    ap (λ o. option_map_or (λ (x : SessionImage). with_session g place (record x { state = after })) o g) there
+
+front_is : (g : HostImage) (place : ℕ) (s w : SessionImage) → slice_get g.sessions place ≡ Some s
+    → take_front (with_session g place w) place ≡ with_session g place (record w { queued = drop 1 w.queued })
+front_is g place s w there =
+    let k = with_session g place w in
+    ap (λ o. option_map_or (λ (x : SessionImage). with_session k place (record x { queued = drop 1 x.queued })) o k)
+    (set_here g.sessions place s w there)
+    ∙ ap (λ ss. record g { sessions = ss }) (set_twice g.sessions place w (record w { queued = drop 1 w.queued }))
+
+pub put_installed : (P : Type 0) (g : HostImage) (place : ℕ) (s : SessionImage) (cue : Cue) (t : TurnResult)
+    → slice_get g.sessions place ≡ Some s
+    → installed {P = P} (put_changes place cue t.after) g ≡ with_session g place (put_in s cue t)
+put_installed P g place s Fresh t there = put_is g place s t.after there
+put_installed P g place s Resume t there = put_is g place s t.after there
+put_installed P g place s Cancel t there = put_is g place s t.after there
+put_installed P g place s (External e) t there =
+    ap (λ k. take_front k place) (put_is g place s t.after there)
+    ∙ front_is g place s (record s { state = t.after }) there
+
+put_can : (P : Type 0) (g : HostImage) (place : ℕ) (s : SessionImage) (cue : Cue) (after : SessionState)
+    → slice_get g.sessions place ≡ Some s → after.session ≡ s.state.session → CanApplyAll {P = P} g (put_changes place cue after)
+put_can P g place s cue after there named = by cue
+  where
+    within : place < length g.sessions
+    within = slice_get_within g.sessions place s there
+
+    name : option_map (λ (x : SessionImage). x.state.session) (slice_get g.sessions place) ≡ Some after.session
+    name = ap (λ o. option_map (λ (x : SessionImage). x.state.session) o) there ∙ ap Some (sym named)
+
+    long : length (put_state g place after).sessions ≡ length g.sessions
+    long = ap (λ (k : HostImage). length k.sessions) (put_is g place s after there)
+        ∙ length-set g.sessions place (record s { state = after })
+
+    by : (c : Cue) → CanApplyAll {P = P} g (put_changes place c after)
+    by Fresh = ((within, name), tt)
+    by Resume = ((within, name), tt)
+    by Cancel = ((within, name), tt)
+    by (External e) = ((within, name), (omega (arith, within, long), tt))
+
+put_targets : (P : Type 0) (n place : ℕ) (cue : Cue) (after : SessionState) → HaveTargets {P = P} n (put_changes place cue after)
+put_targets P n place Fresh after = (tt, tt)
+put_targets P n place Resume after = (tt, tt)
+put_targets P n place Cancel after = (tt, tt)
+put_targets P n place (External e) after = (tt, (tt, tt))
+
+-- the host with the turn put in is one of which effects are drafted
+pub put_base : (g : HostImage) (place : ℕ) (s : SessionImage) (cue : Cue) (t : TurnResult) → slice_get g.sessions place ≡ Some s
+    → AreNumbered g → IsBase g place t.after (with_session g place (put_in s cue t))
+put_base g place s cue t there numbers = record {
+  outlines = map-set outline g.sessions place (put_in s cue t)
+      ∙ sym (ap outlines (put_is g place s t.after there)
+      ∙ map-set outline g.sessions place (record s { state = t.after }));
+  clock = refl;
+  timers = refl;
+  events = refl;
+  delayed = refl;
+  sends = numbers;
+}
+
+-- ---- no chart is installed
+
+none_put : {P : Type 0} (chart_of : P → Chart) (place : ℕ) (cue : Cue) (after : SessionState) (more : List (Change P))
+    → ArePlanned chart_of more → ArePlanned chart_of (put_changes place cue after ++ more)
+none_put chart_of place Fresh after more none = none
+none_put chart_of place Resume after more none = none
+none_put chart_of place Cancel after more none = none
+none_put chart_of place (External e) after more none = none
+
+none_of_step : {P : Type 0} (chart_of : P → Chart) (name : List ℕ) (cs more : List (Change P))
+    → AllByRecursion (IsOfStep name) cs → ArePlanned chart_of more → ArePlanned chart_of (cs ++ more)
+none_of_step chart_of name [] more all none = none
+none_of_step chart_of name (Queue place e ∷ cs) more all none = none_of_step chart_of name cs more all.1 none
+none_of_step chart_of name (Tell place e ∷ cs) more all none = none_of_step chart_of name cs more all.1 none
+none_of_step chart_of name (Delay send ∷ cs) more all none = none_of_step chart_of name cs more all.1 none
+none_of_step chart_of name (Undo session id ∷ cs) more all none = none_of_step chart_of name cs more all.1 none
+none_of_step chart_of name (Count ∷ cs) more all none = absurd all.0
+none_of_step chart_of name (Advance clock ∷ cs) more all none = absurd all.0
+none_of_step chart_of name (Install n chart ∷ cs) more all none = absurd all.0
+none_of_step chart_of name (Start n s ∷ cs) more all none = absurd all.0
+none_of_step chart_of name (PutState place state ∷ cs) more all none = absurd all.0
+none_of_step chart_of name (TakeFront place ∷ cs) more all none = absurd all.0
+none_of_step chart_of name (Flag place ∷ cs) more all none = absurd all.0
+none_of_step chart_of name (End place ∷ cs) more all none = absurd all.0
+none_of_step chart_of name (Fire place i ∷ cs) more all none = absurd all.0
+none_of_step chart_of name (Lose ∷ cs) more all none = absurd all.0
+
+-- ---- the whole step
+
+-- the changes of a step
+abbrev pub step_changes : {P : Type 0} → ℕ → Cue → SessionState → List (Change P) → List (Change P)
+step_changes place cue after effects = put_changes place cue after ++ (effects ++ (End place ∷ Count ∷ []))
+
+-- they install no chart
+pub step_none : {P : Type 0} (name : List ℕ) (g : HostImage) (d : Draft P) (place : ℕ) (cue : Cue) (after : SessionState)
+    → IsDraft name g d → InstallNone (step_changes place cue after d.changes)
+step_none name g d place cue after draft = λ chart_of.
+    none_put chart_of place cue after (d.changes ++ (End place ∷ Count ∷ []))
+    (none_of_step chart_of name d.changes (End place ∷ Count ∷ []) draft.of_step tt)
+
+-- they make the step
+pub step_prepared : {P : Type 0} (g : HostImage) (place : ℕ) (s : SessionImage) (cue : Cue) (t : TurnResult) (d : Draft P)
+    (p : Prepared P) → slice_get g.sessions place ≡ Some s → t.after.session ≡ s.state.session → g.commands + 1 < 2 ^ 64
+    → DraftsAll t.after.session (with_session g place (put_in s cue t)) d
+        (deliver_all (with_session g place (put_in s cue t)) place t.effects)
+    → p.changes ≡ step_changes place cue t.after d.changes → p.reply ≡ (step_turn g place s cue t).reply
+    → p.logs ≡ t.logs → p.sent ≡ d.sent → Prepares (step_turn g place s cue t) g p
+step_prepared {P = P} g place s cue t d p there named commands drafted changes reply logs sent =
+    let front : List (Change P) = put_changes place cue t.after in
+    let back : List (Change P) = End place ∷ Count ∷ [] in
+    let b = with_session g place (put_in s cue t) in
+    let h = so_far b d in
+    let put : installed front g ≡ b = put_installed P g place s cue t there in
+    let reached : installed (step_changes place cue t.after d.changes) g ≡ installed back h =
+    installed_append front (d.changes ++ back) g ∙ ap (installed (d.changes ++ back)) put ∙ installed_append d.changes back b in
+    let long : length h.sessions ≡ length g.sessions =
+    within_outlines b h drafted.draft.follows.outlines ∙ length-set g.sessions place (put_in s cue t) in
+    let within = slice_get_within g.sessions place s there in
+    let counted : (end_at h place).commands ≡ g.commands =
+    commands_moved h (end_at h place) [] (end_moves h place) ∙ drafted.draft.follows.commands in
+    let last : CanApplyAll h back = (omega (arith, within, long), (omega (arith, counted, commands), tt)) in
+    record {
+      host = ap (λ (cs : List (Change P)). installed cs g) changes ∙ reached
+          ∙ ap (λ (k : HostImage). record (end_at k place) { commands = (end_at k place).commands + 1 }) drafted.host;
+      reply = reply;
+      logs = logs;
+      sent = sent ∙ drafted.sent;
+      can = subst (CanApplyAll g) (sym changes)
+          (can_append front (d.changes ++ back) g (put_can P g place s cue t.after there named)
+          (subst (λ (k : HostImage). CanApplyAll k (d.changes ++ back)) (sym put)
+          (can_append d.changes back b drafted.draft.can last)));
+      targets = subst (HaveTargets (length g.sessions)) (sym changes)
+          (targets_append (length g.sessions) front (d.changes ++ back) (put_targets P (length g.sessions) place cue t.after)
+          (targets_append (length g.sessions) d.changes back
+          (subst (λ n. HaveTargets n d.changes) (length-set g.sessions place (put_in s cue t)) drafted.draft.targets)
+          (tt, (tt, tt))));
+    }

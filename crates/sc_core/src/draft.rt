@@ -1,0 +1,31 @@
+ghost use Rattle.std.specs.Prelude.{◌≡◌, []};
+
+use crate::change::Change;
+use sc_base::{Queue, Sequence};
+use sc_types::Delivery;
+use std::alloc::Global;
+
+/// What is prepared of a step's effects so far: the changes, and what becomes of each effect.
+#[derive(Drop)]
+pub struct Draft<P> {
+    pub(crate) changes: Queue<Change<P>>,
+    pub(crate) sent: Sequence<Delivery>,
+    /// How many events have numbers by then.
+    pub(crate) events: u128,
+    /// How many sends are delayed by then.
+    pub(crate) delayed: u64,
+}
+
+impl<P: Drop> Draft<P> {
+    /// Before the first effect.
+    pub(crate) fn new(alloc: Global, events: u128, delayed: u64) -> Draft<P>
+        ensures { result ≡ record { changes = []; sent = []; events = events; delayed = delayed } }
+    {
+        Draft {
+            changes: Queue::new(alloc),
+            sent: Sequence::new(alloc),
+            events,
+            delayed,
+        }
+    }
+}

@@ -1,0 +1,112 @@
+ghost use Rattle.std.specs.Prelude.{◌≡◌, ◌+◌, ◌^◌, ◌<◌, ◌≤◌, ◌++◌, [], ◌∷◌, Some, List, IfOk, OnOk, length, option_map, slice_get};
+ghost use Rattle.sc_core.specs.Bodies.{Agrees, image};
+ghost use Rattle.sc_core.specs.Commands.{step_turn};
+ghost use Rattle.sc_core.specs.Deliveries.{deliver_all};
+ghost use Rattle.sc_core.specs.Drafts.{AreNumbered, DraftsAll, IsBase};
+ghost use Rattle.sc_core.specs.Preparing.{InstallNone, Prepares};
+ghost use Rattle.sc_core.specs.Stepping.{put_changes};
+ghost use Rattle.sc_law.specs.Turned.{TurnedOf};
+ghost use Rattle.sc_types.specs.declared.host.HostImage.{HostImage};
+ghost use Rattle.sc_types.specs.declared.host.SessionImage.{SessionImage};
+
+use crate::body::Body;
+use crate::change::Change;
+use crate::cues::name_of;
+use crate::draft::Draft;
+use crate::prepared::Prepared;
+use sc_base::{NoMemory, Queue, Sequence};
+use sc_law::Turned;
+use sc_types::{Cue, Effect, Reply, SessionState};
+use std::alloc::Global;
+
+/// The changes by which a turn is put in: the state after it, and an external event leaves its queue.
+fn put_changes<P: Drop>(
+    alloc: Global,
+    place: usize,
+    cue: &Cue,
+    after: SessionState,
+) -> Result<Queue<Change<P>>, NoMemory>
+    ensures { IfOk result (λ cs. cs ≡ put_changes place cue.now after) }
+{
+    let mut changes = Queue::new(alloc);
+    changes.push(Change::PutState {
+        place,
+        state: after,
+    })?;
+    if let Cue::External(_) = cue {
+        changes.push(Change::TakeFront { place })?;
+    }
+    Ok(changes)
+}
+
+/// Puts changes behind others.
+fn append<P: Drop>(
+    changes: &mut Queue<Change<P>>,
+    mut more: Queue<Change<P>>,
+) -> Result<(), NoMemory>
+    ensures { OnOk result (changes.new ≡ changes.old ++ more) }
+{
+    while let Some(change) = more.pop_front() {
+        changes.push(change)?;
+    }
+    Ok(())
+}
+
+impl<P: Drop> Body<P> {
+    /// Prepares what the effects of a turn do, one after another.
+    fn draft_effects(
+        &self,
+        alloc: Global,
+        place: usize,
+        after: &SessionState,
+        effects: Sequence<Effect>,
+    ) -> Result<Draft<P>, NoMemory>
+        requires agrees { Agrees self.now }
+        requires within { place < length self.now.sessions.items }
+        requires there { option_map (λ (s : SessionImage). s.state.session) (slice_get (image self.now).sessions place)
+            ≡ Some after.now.session }
+        requires events { self.now.events + length effects < 2 ^ 128 }
+        ensures { IfOk result (λ d. (g : HostImage) → IsBase (image self.now) place after.now g
+            → DraftsAll after.now.session g d (deliver_all g place effects)) }
+    {
+        let mut draft = Draft::new(alloc, self.events, self.delayed);
+        for effect in effects.into_vec() {
+            self.draft_effect(alloc, &mut draft, place, after, effect)?;
+        }
+        Ok(draft)
+    }
+
+    /// Prepares the step of the session at a place, which has this cue and takes this turn.
+    pub(crate) fn draft_turn(
+        &self,
+        alloc: Global,
+        place: usize,
+        cue: &Cue,
+        turned: Turned,
+    ) -> Result<Prepared<P>, NoMemory>
+        requires agrees { Agrees self.now }
+        requires commands { self.now.commands + 1 < 2 ^ 64 }
+        requires events { self.now.events + 2 ^ 64 < 2 ^ 128 }
+        requires numbers { AreNumbered (image self.now) }
+        requires within { place < length self.now.sessions.items }
+        requires there { option_map (λ (s : SessionImage). s.state.session) (slice_get (image self.now).sessions place)
+            ≡ Some turned.after.session }
+        ensures step { IfOk result (λ p. (s : SessionImage) → slice_get (image self.now).sessions place ≡ Some s
+            → Prepares (step_turn (image self.now) place s cue.now
+                (record { after = turned.after; effects = turned.effects; logs = turned.logs })) (image self.now) p) }
+        ensures none { IfOk result (λ p. InstallNone p.changes) }
+    {
+        let (after, effects, logs) = turned.into_parts();
+        let draft = self.draft_effects(alloc, place, &after, effects)?;
+        let mut changes = put_changes(alloc, place, cue, after)?;
+        append(&mut changes, draft.changes)?;
+        changes.push(Change::End { place })?;
+        changes.push(Change::Count)?;
+        Ok(Prepared {
+            changes,
+            reply: Reply::Stepped(name_of(cue)),
+            logs,
+            sent: draft.sent,
+        })
+    }
+}
