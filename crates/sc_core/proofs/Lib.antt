@@ -1,4 +1,5 @@
 pub mod AimLemmas
+pub mod AppendLemmas
 pub mod BodyLemmas
 pub mod ChangeLemmas
 pub mod FitLemmas
@@ -12,5 +13,6 @@ pub mod Once
 pub mod PrepareLemmas
 pub mod RoomLemmas
 pub mod SetLemmas
+pub mod TickLemmas
 pub mod TurnLemmas
 pub mod WeightLemmas

@@ -11,3 +11,4 @@ pub mod Installing
 pub mod Preparing
 pub mod Holding
 pub mod HostStates
+pub mod Ticking

@@ -8,12 +8,14 @@ mod body;
 mod change;
 mod changes;
 mod charts;
+mod failures;
 mod host_state;
 mod posts;
 mod prepared;
 mod rooms;
 mod session;
 mod starts;
+mod ticks;
 mod weights;
 
 pub use host_state::HostState;

@@ -1,0 +1,31 @@
+ghost use Rattle.std.specs.Prelude.{◌≡◌, IfOk, codes};
+ghost use Rattle.sc_law.specs.Runs.{platform_event};
+
+use sc_base::{Name, NoMemory, Plain, SmallBytes};
+use sc_types::{Data, Event, Kind};
+use std::alloc::Global;
+
+fn error_name(alloc: Global) -> Result<Name, NoMemory>
+    ensures { IfOk result (λ name. name ≡ codes "error.communication") }
+{
+    match Name::of(alloc, b"error.communication") {
+        Ok(name) => Ok(name),
+        Err(_) => Err(NoMemory),
+    }
+}
+
+/// What a sender hears of an event that reaches nobody, by the id of the send.
+pub(crate) fn communication_error(alloc: Global, sendid: &SmallBytes) -> Result<Event, NoMemory>
+    ensures { IfOk result (λ e. e ≡ platform_event (codes "error.communication") sendid.now Data.Absent) }
+{
+    Ok(Event {
+        number: 0,
+        name: error_name(alloc)?,
+        kind: Kind::Platform,
+        sendid: sendid.copy()?,
+        origin: SmallBytes::empty(),
+        origintype: SmallBytes::empty(),
+        invokeid: SmallBytes::empty(),
+        payload: Data::Absent,
+    })
+}
