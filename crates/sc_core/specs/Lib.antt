@@ -15,3 +15,4 @@ pub mod Stepping
 pub mod Ticking
 pub mod Holding
 pub mod HostStates
+pub mod Ticking
