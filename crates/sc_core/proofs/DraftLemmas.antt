@@ -1,11 +1,16 @@
 -- What is prepared of an effect is what the host machine does.
-use Rattle.std.proofs.Common.{codes, count_by, ◌≡◌, ℕ, ◌+◌, ◌-◌, ◌^◌, ◌<◌, ◌≤◌, ◌++◌, ◌&&◌, ◌==◌, All, Bool, true, false, nat_lt, not, filter, if◌then◌else◌, Option, Some, None, List, [], ◌∷◌, length, map, option_map, slice_get, refl, sym, ap, subst, ◌∙◌, arith}
+use Rattle.std.proofs.Common.{codes, count_by, get_or, slice_set, Result, Ok, Err, IfOk, ◌≡◌, ℕ, ◌+◌, ◌-◌, ◌^◌, ◌<◌, ◌≤◌, ◌++◌, ◌&&◌, ◌==◌, All, Bool, true, false, nat_lt, not, filter, if◌then◌else◌, Option, Some, None, List, [], ◌∷◌, length, map, option_map, slice_get, refl, sym, ap, subst, ◌∙◌, arith}
 use Rattle.std.specs.List.{AllByRecursion}
 use Rattle.std.specs.Option.{option_map_or}
 use Rattle.std.proofs.lemmas.List.Elements.{All-filter}
-use Rattle.std.proofs.lemmas.Option.{same_Some, slice_get-map, slice_get_within}
+use Rattle.std.proofs.Math.Seq.{map-set_same}
+use Rattle.std.proofs.lemmas.Bool.Decides.{nat_tests}
+use Rattle.std.proofs.lemmas.List.{length-set}
+use Rattle.std.proofs.lemmas.Option.{get_or_from_slice_get, same_Some, slice_get-get_or, slice_get-map, slice_get_within}
 use Rattle.sc_types.specs.Sends.{is_send, with_send}
 use Rattle.sc_law.specs.Runs.{platform_event}
+use Rattle.sc_types.specs.declared.effect.Effect.{Effect}
+use Rattle.sc_types.specs.declared.effect.Effect.TheVariants.{Send}
 use Rattle.sc_types.specs.declared.event.Data.TheVariants.{Absent}
 use Rattle.sc_types.specs.declared.event.Event.{Event}
 use Rattle.sc_types.specs.declared.history.Delivery.{Delivery}
@@ -20,7 +25,7 @@ use Rattle.sc_types.specs.declared.session.SessionState.{SessionState}
 use Rattle.sc_core.specs.Aims.{Outline, aim, carried, outline, outlines, received}
 use Rattle.sc_core.specs.Changes.{put_state, queue_at, tell}
 use Rattle.sc_core.specs.Deliveries.{Delivered, arriving, delay_send, deliver, deliver_of, due_time, hears, left_as, next_send, queue, send_now, undo, unreachable}
-use Rattle.sc_core.specs.Drafts.{AreNumbered, Drafts, Follows, IsDraft, IsOfStep, IsSender, so_far}
+use Rattle.sc_core.specs.Drafts.{AreNumbered, Drafts, Follows, IsDraft, IsOfStep, IsSender, Notes, so_far}
 use Rattle.sc_core.specs.Hosts.{is_live, is_running, with_session}
 use Rattle.sc_core.specs.Installing.{CanApply, CanApplyAll, HasTarget, HaveTargets, apply, installed}
 use Rattle.sc_core.specs.declared.aims.Aim.{Aim}
@@ -143,6 +148,131 @@ sender_is before place after g d t s there sender =
       invoker = ap (λ (o : Outline). o.invoker) same;
     }
 
+put_long : (g : HostImage) (place : ℕ) (after : SessionState) → length (put_state g place after).sessions ≡ length g.sessions
+put_long g place after = by (slice_get g.sessions place)
+  where
+    put : SessionImage → HostImage
+    put s = with_session g place (record s { state = after })
+
+    by : (o : Option SessionImage) → length (option_map_or put o g).sessions ≡ length g.sessions
+    by None = refl
+    by (Some s) = length-set g.sessions place (record s { state = after })
+
+-- the sender stands in the host, with what its turn and deliveries leave of it
+pub record IsThere (before : HostImage) (place : ℕ) (after : SessionState) (t : SessionImage) : Type 0 where
+  pub session : SessionImage
+  pub there : slice_get before.sessions place ≡ Some session
+  pub is : IsSent before place after session.invoker t
+  pub outline : outline t ≡ outline (record session { state = after })
+
+pub sender_there : {P : Type 0} (before : HostImage) (place : ℕ) (after : SessionState) (g : HostImage) (d : Draft P)
+    (t : SessionImage) → IsSender before place after g d t → IsThere before place after t
+sender_there before place after g d t sender =
+    let long = within_outlines (put_state before place after) (so_far g d)
+    (sender.draft.follows.outlines ∙ sender.outlines) in
+    let within = slice_get_within (so_far g d).sessions place t sender.there in
+    let less : place < length before.sessions = omega (arith, long, within, put_long before place after) in
+    let s = get_or before.sessions place t in
+    let at : slice_get before.sessions place ≡ Some s = slice_get-get_or before.sessions place t less in
+    record {
+      session = s;
+      there = at;
+      is = sender_is before place after g d t s at sender;
+      outline = sender_outline before place after g d t s at sender;
+    }
+
+abbrev name_of : SessionImage → List ℕ
+name_of s = s.state.session
+
+name_map : (ss : List SessionImage) → map name_of ss ≡ map (λ (o : Outline). o.name) (map outline ss)
+name_map [] = refl
+name_map (s ∷ ss) = ap (λ ns. s.state.session ∷ ns) (name_map ss)
+
+some_map : (o : Option SessionImage) (n : List ℕ) → option_map name_of o ≡ Some n
+    → (r : SessionImage) × (o ≡ Some r) × (r.state.session ≡ n)
+some_map None n h = absurd cc
+some_map (Some r) n h = (r, refl, same_Some r.state.session n h)
+
+-- a session stands at its place under its name, whatever effects do
+pub receiver_is : {P : Type 0} (before : HostImage) (place : ℕ) (after : SessionState) (g : HostImage) (d : Draft P)
+    (t : SessionImage) (receiver : ℕ) (n : List ℕ) → IsSender before place after g d t
+    → option_map name_of (slice_get before.sessions place) ≡ Some after.session
+    → option_map name_of (slice_get before.sessions receiver) ≡ Some n
+    → (r : SessionImage) × (slice_get (so_far g d).sessions receiver ≡ Some r) × (r.state.session ≡ n)
+receiver_is before place after g d t receiver n sender own named =
+    let found = sender_there before place after g d t sender in
+    let h = so_far g d in
+    let put = record found.session { state = after } in
+    let is : after.session ≡ found.session.state.session =
+    same_Some after.session found.session.state.session (sym own ∙ ap (λ o. option_map name_of o) found.there) in
+    let stays : (put_state before place after).sessions ≡ slice_set before.sessions place put =
+    ap (λ o. (option_map_or (λ (x : SessionImage). with_session before place (record x { state = after })) o before).sessions)
+    found.there in
+    let names : map name_of h.sessions ≡ map name_of before.sessions =
+    name_map h.sessions ∙ ap (map (λ (o : Outline). o.name)) (sender.draft.follows.outlines ∙ sender.outlines)
+    ∙ sym (name_map (put_state before place after).sessions) ∙ ap (map name_of) stays
+    ∙ map-set_same name_of before.sessions place put found.session
+    (is ∙ ap name_of (sym (get_or_from_slice_get before.sessions place found.session found.session found.there))) in
+    some_map (slice_get h.sessions receiver) n
+    (sym (slice_get-map name_of h.sessions receiver) ∙ ap (λ ns. slice_get ns receiver) names
+    ∙ slice_get-map name_of before.sessions receiver ∙ named)
+
+-- an event goes where it was seen to go before anything changed
+pub send_aimed : {P : Type 0} (before : HostImage) (place : ℕ) (after : SessionState) (g : HostImage) (d : Draft P)
+    (t : SessionImage) (who : To) (e : Event) (by : Option InvokerImage) (a : Aim) → IsSender before place after g d t
+    → option_map (λ (s : SessionImage). s.invoker) (slice_get before.sessions place) ≡ Some by
+    → ((s : SessionImage) → s.state.session ≡ after.session → s.invoker ≡ by → a ≡ aim (put_state before place after) s who)
+    → send_now (so_far g d) place t who e ≡ carried (so_far g d) place t e a
+send_aimed before place after g d t who e by a sender invoked aimed =
+    let h = so_far g d in
+    let found = sender_there before place after g d t sender in
+    let put = record found.session { state = after } in
+    let invoker : found.session.invoker ≡ by =
+    same_Some found.session.invoker by
+    (sym (ap (λ o. option_map (λ (s : SessionImage). s.invoker) o) found.there) ∙ invoked) in
+    carried_is_sent h place t who e
+    ∙ ap (carried h place t e) (same_aim h (put_state before place after) t put who
+    (sender.draft.follows.outlines ∙ sender.outlines) found.outline ∙ sym (aimed put refl invoker))
+
+-- what is said of each value of one result is said of it
+pub each_ok : {A E : Type 0} {P Q : A → Type 0} → ((a : A) → P a → Q a) → (r : Result A E) → IfOk r P → IfOk r Q
+each_ok f (Ok a) h = f a h
+each_ok f (Err e) h = tt
+
+-- a send with a delay
+pub is_later : (g : HostImage) (place : ℕ) (s : SessionImage) (e : Event) (who : To) (delay : ℕ) → (delay ≡ 0 → ⊥)
+    → deliver_of g place s (Send e who delay) ≡ delay_send g s who e delay
+is_later g place s e who delay some =
+    let no : (delay == 0) ≡ false = grind (arith, nat_tests, some) in
+    ap (λ b. if b then send_now g place s who e else delay_send g s who e delay) no
+
+-- an effect of the session at a place
+pub deliver_is : (g : HostImage) (place : ℕ) (s : SessionImage) (effect : Effect) → slice_get g.sessions place ≡ Some s
+    → deliver g place effect ≡ deliver_of g place s effect
+unfolding deliver
+deliver_is g place s effect there =
+    ap (λ o. option_map_or (λ (x : SessionImage). deliver_of g place x effect) o (left_as g Nothing)) there
+
+-- what becomes of an effect is noted behind what became of the others
+pub noted : {P : Type 0} (name : List ℕ) (g : HostImage) (old mid new : Draft P) (d e : Delivered) (told : Delivery) → e ≡ d
+    → Drafts name g old mid d told → new ≡ record mid { sent = mid.sent ++ told ∷ [] } → Notes name g old new e
+noted {P = P} name g old mid new d e told is h made =
+    let sent : new.sent ≡ old.sent ++ e.what ∷ [] =
+    ap (λ (x : Draft P). x.sent) made ∙ ap (λ s. s ++ told ∷ []) h.sent
+    ∙ ap (λ w. old.sent ++ w ∷ []) (h.told ∙ sym (ap (λ (x : Delivered). x.what) is)) in
+    record {
+      draft = subst (IsDraft name g) (sym made) (record {
+        can = h.draft.can;
+        targets = h.draft.targets;
+        of_step = h.draft.of_step;
+        events = h.draft.events;
+        delayed = h.draft.delayed;
+        follows = h.draft.follows;
+      });
+      host = ap (so_far g) made ∙ h.host ∙ sym (ap (λ (x : Delivered). x.host) is);
+      sent = sent;
+    }
+
 -- ---- a send that reaches nobody
 
 told_is : (h : HostImage) (place : ℕ) (t : SessionImage) (e : Event) → slice_get h.sessions place ≡ Some t
@@ -255,6 +385,17 @@ delay_drafted {P = P} name g old new t who e delay send told draft may is made w
         sends = next_numbered h next (omega arith) draft.follows.sends;
       };
     }))
+
+-- a pending send by its parts
+pub next_is : (g : HostImage) (t : SessionImage) (who : To) (e : Event) (delay : ℕ) (session : List ℕ) (number due : ℕ)
+    → session ≡ t.state.session → number ≡ g.delayed + 1 → due ≡ due_time g.clock delay
+    → record { session = session; number = number; due = due; event = e; to = who } ≡ next_send g t who e delay
+next_is g t who e delay session number due named numbered is =
+    ap (send session number) is ∙ ap (λ n. send session n (due_time g.clock delay)) numbered
+    ∙ ap (λ s. send s (g.delayed + 1) (due_time g.clock delay)) named
+  where
+    send : List ℕ → ℕ → ℕ → TimerImage
+    send s n d = record { session = s; number = n; due = d; event = e; to = who }
 
 pub dropped_drafted : {P : Type 0} (name : List ℕ) (g : HostImage) (old : Draft P) (t : SessionImage) (who : To) (e : Event)
     (delay : ℕ) → IsDraft name g old → (is_live t.state.phase && nat_lt old.delayed (2 ^ 64 - 1)) ≡ false

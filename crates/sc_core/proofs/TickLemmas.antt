@@ -1,10 +1,11 @@
 -- What is drafted of the sends that come due is what they do.
-use Rattle.std.proofs.Common.{append-nil, ◌≡◌, ℕ, ◌+◌, ◌^◌, ◌<◌, ◌≤◌, ◌||◌, ◌&&◌, ◌==◌, nat_le, nat_lt, zero, suc, Bool, true, false, not, filter, cond, Option, Some, None, option_map, option_and_then, if◌then◌else◌, List, [], ◌∷◌, ◌++◌, codes, drop, length, map, position, slice_get, refl, arith, sym, ap, subst, ◌∙◌}
+use Rattle.std.proofs.Common.{IfOk, Result, Ok, Err, append-nil, ◌≡◌, ℕ, ◌+◌, ◌^◌, ◌<◌, ◌≤◌, ◌||◌, ◌&&◌, ◌==◌, nat_le, nat_lt, zero, suc, Bool, true, false, not, filter, cond, Option, Some, None, option_map, option_and_then, if◌then◌else◌, List, [], ◌∷◌, ◌++◌, codes, drop, length, map, position, slice_get, refl, arith, sym, ap, subst, ◌∙◌}
 use Rattle.std.proofs.lemmas.Bool.Decides.{nat_tests}
 use Rattle.std.proofs.lemmas.List.{length-append, length-map, append_assoc}
 use Rattle.std.proofs.lemmas.Option.{slice_get-map, slice_get_within}
 use Rattle.std.specs.Option.{option_map_or}
 use Rattle.std.specs.Str.{bytes_eq}
+use Rattle.sc_base.specs.declared.memory.NoMemory.{NoMemory}
 use Rattle.sc_types.specs.Sends.{IsBeforeAll, IsInDueOrder, is_before}
 use Rattle.sc_types.specs.declared.command.Reply.TheVariants.{Ticked}
 use Rattle.sc_types.specs.declared.event.Data.TheVariants.{Absent}
@@ -17,7 +18,8 @@ use Rattle.sc_types.specs.declared.host.TimerImage.{TimerImage}
 use Rattle.sc_types.specs.declared.host.To.{To}
 use Rattle.sc_law.specs.Runs.{platform_event}
 use Rattle.sc_core.specs.Aims.{Outline, aim, carried, invokeid_for, outline, outlines, received}
-use Rattle.sc_core.specs.Changes.{IsFirstDue, fire_first, lose, queue_at, tell, with_invokeid}
+use Rattle.sc_core.specs.Bodies.{image, session_image}
+use Rattle.sc_core.specs.Changes.{IsFirstDue, fire_first, lose, put_state, queue_at, tell, with_invokeid}
 use Rattle.sc_core.specs.Commands.{advance}
 use Rattle.sc_core.specs.Deliveries.{Delivered, arriving, fire, fire_all, hears, is_cut_from, is_due, left_as, queue, receiver_name, send_found, send_named, send_now, unreachable, while_live}
 use Rattle.sc_core.specs.Hosts.{is_running, session_named, session_place, with_session}
@@ -27,15 +29,18 @@ use Rattle.sc_core.specs.Preparing.{InstallNone, Prepares}
 use Rattle.sc_core.specs.Ticking.{Adds, Fired, fired, fired_at, fired_by, fired_failed, fired_lost}
 use Rattle.sc_core.specs.declared.aims.Aim.{Aim}
 use Rattle.sc_core.specs.declared.aims.Aim.TheVariants.{Reaches, Fails, Drops}
+use Rattle.sc_core.specs.declared.body.Body.{Body}
 use Rattle.sc_core.specs.declared.change.Change.{Change}
 use Rattle.sc_core.specs.declared.change.Change.TheVariants.{Advance, Count, Fire, Lose, Tell}
 use Rattle.sc_core.specs.declared.prepared.Prepared.{Prepared}
+use Rattle.sc_core.specs.declared.session.Session.{Session}
 use Rattle.sc_core.specs.declared.ticks.Draft.{Draft}
-use Rattle.sc_core.proofs.AimLemmas.{aim_in, arrives, carried_is_sent, named_in, outlined_aim, outlines_fire, same_aim}
+use Rattle.sc_core.proofs.AimLemmas.{aim_in, arrives, carried_is_sent, named_in, outlined_aim, outlines_fire, outlines_put, same_aim}
 use Rattle.sc_core.proofs.AppendLemmas.{can_more, installed_more, planned_more, targets_more}
 use Rattle.sc_core.proofs.BodyLemmas.{position_map}
 use Rattle.sc_core.proofs.FoundLemmas.{is_at}
 use Rattle.sc_core.proofs.MoveLemmas.{due_in, events_moved, fire_moves, given_in, ticked}
+use Rattle.sc_core.proofs.SetLemmas.{image_at}
 
 -- ---- what a send makes is what it does
 
@@ -128,7 +133,7 @@ reached_fired h t ts s to r first there =
           ∙ ap (λ e. queue left to r e) (arrives s name t.event);
       what = refl;
       events = refl;
-      can = λ due less. ((within, (less, due)), tt);
+      can = λ due less. ((within, less, due), tt);
       targets = (within, tt);
       plain = λ chart_of. tt;
     }
@@ -338,6 +343,52 @@ rest_from [] i x there = absurd cc
 rest_from (y ∷ ys) zero x there = let is : y ≡ x = cc in ap (λ z. z ∷ ys) is
 rest_from (y ∷ ys) (suc i) x there = rest_from ys i x there
 
+-- ---- what the body finds of a send
+
+-- the aim of the session that was found, told by its own state
+fired_aimed : {P : Type 0} (h : Body P) (n : ℕ) (t : TimerImage) (place : ℕ) (s : Session) (a : Aim)
+    → Some (place, session_image s) ≡ session_named (image h) t.session → slice_get h.sessions.items place ≡ Some s
+    → a ≡ aim (put_state (image h) place s.state) (session_image s) t.to
+    → fired {P = P} (image h) n t ≡ fired_by (image h) n t place (session_image s) a
+fired_aimed {P = P} h n t place s a found at aims =
+    let g = image h in
+    let o = session_image s in
+    let kept = outlines_put g place o s.state (image_at h.sessions.items place s at) refl in
+    let same : aim g o t.to ≡ a = sym (aims ∙ same_aim (put_state g place s.state) g o o t.to kept refl) in
+    ap (λ (f : Option (ℕ × SessionImage)). option_map_or (λ (x : ℕ × SessionImage). fired_by {P = P} g n t x.0 x.1 (aim g x.1 t.to)) f (fired_lost n Dropped)) (sym found)
+    ∙ ap (fired_by {P = P} g n t place o) same
+
+-- a send that reaches a session
+pub fired_reaches : {P : Type 0} (h : Body P) (n : ℕ) (t : TimerImage) (place : ℕ) (s : Session) (a : Aim) (to : ℕ) (name : List ℕ)
+    → Some (place, session_image s) ≡ session_named (image h) t.session → slice_get h.sessions.items place ≡ Some s
+    → a ≡ aim (put_state (image h) place s.state) (session_image s) t.to → a ≡ Reaches to
+    → option_map (λ (x : Session). x.state.session) (slice_get h.sessions.items to) ≡ Some name
+    → fired {P = P} (image h) n t ≡ fired_at n to s.invoker name
+fired_reaches {P = P} h n t place s a to name found at aims is named =
+    fired_aimed h n t place s a found at aims ∙ ap (fired_by {P = P} (image h) n t place (session_image s)) is
+    ∙ ap (λ (o : Option SessionImage). option_map_or (λ (r : SessionImage). fired_at {P = P} n to s.invoker r.state.session) o (fired_lost n Nothing)) (slice_get-map session_image h.sessions.items to)
+    ∙ by (slice_get h.sessions.items to) named
+  where
+    by : (o : Option Session) → option_map (λ (x : Session). x.state.session) o ≡ Some name
+        → option_map_or (λ (r : SessionImage). fired_at {P = P} n to s.invoker r.state.session) (option_map session_image o) (fired_lost n Nothing)
+        ≡ fired_at n to s.invoker name
+    by None is = absurd cc
+    by (Some r) is =
+        let same : r.state.session ≡ name = cc in
+        ap (fired_at {P = P} n to s.invoker) same
+
+-- a send that reaches nobody
+pub fired_fails : {P : Type 0} (h : Body P) (n : ℕ) (t : TimerImage) (place : ℕ) (s : Session) (a : Aim)
+    → Some (place, session_image s) ≡ session_named (image h) t.session → slice_get h.sessions.items place ≡ Some s
+    → a ≡ aim (put_state (image h) place s.state) (session_image s) t.to → a ≡ Fails
+    → fired {P = P} (image h) n t ≡ fired_failed n place s.state.phase t.event.sendid
+fired_fails {P = P} h n t place s a found at aims is =
+    fired_aimed h n t place s a found at aims ∙ ap (fired_by {P = P} (image h) n t place (session_image s)) is
+
+-- equal sends are added alike
+pub adds_same : {P : Type 0} (f made : Fired P) (old new : Draft P) → f ≡ made → Adds made old new → Adds f old new
+adds_same f made old new is h = subst (λ x. Adds x old new) (sym is) h
+
 -- ---- the sends that come due, one after another
 
 -- the host machine that the draft makes
@@ -367,35 +418,6 @@ pub record Ticks {P : Type 0} (g : HostImage) (now : ℕ) (d : Draft P) : Type 0
   pub can : CanApplyAll g d.changes
   pub targets : HaveTargets (length g.sessions) d.changes
   pub plain : InstallNone d.changes
-
--- at first the clock advances
-pub tick_begun : {P : Type 0} (g : HostImage) (now : ℕ) (d : Draft P) → d.changes ≡ Advance now ∷ [] → d.sent ≡ []
-    → d.events ≡ g.events → Ticks g now d
-tick_begun {P = P} g now d changes sent events =
-    subst (Ticks g now) (sym is) begun
-  where
-    first : Draft P
-    first = record { changes = Advance now ∷ []; sent = []; events = g.events }
-
-    is : d ≡ first
-    is = cc
-
-    begun : Ticks g now first
-    begun = record {
-      host = refl;
-      sent = refl;
-      count = omega arith;
-      clock = refl;
-      commands = refl;
-      timers = refl;
-      events = refl;
-      numbers = omega arith;
-      outlines = refl;
-      left = refl;
-      can = (tt, tt);
-      targets = (tt, tt);
-      plain = λ chart_of. tt;
-    }
 
 -- the next send that is due
 record IsNext {P : Type 0} (g : HostImage) (now : ℕ) (d e : Draft P) (t : TimerImage) : Type 0 where
@@ -538,3 +560,16 @@ pub tick_plain : {P : Type 0} (g : HostImage) (now : ℕ) (d : Draft P) (p : Pre
     → p.changes ≡ d.changes ++ Count ∷ [] → InstallNone p.changes
 tick_plain g now d p so changes =
     λ chart_of. subst (ArePlanned chart_of) (sym changes) (planned_more chart_of d.changes (Count ∷ []) (so.plain chart_of) tt)
+
+-- the same where there was memory for it
+pub tick_ok : {P : Type 0} (g : HostImage) (now : ℕ) (d : Draft P) (r : Result (Prepared P) NoMemory)
+    → g.commands + 1 < 2 ^ 64 → Ticks g now d → due_later g now d ≡ []
+    → IfOk r (λ p. p.changes ≡ d.changes ++ Count ∷ []) → IfOk r (λ p. p.reply ≡ Ticked (length d.sent))
+    → IfOk r (λ p. p.logs ≡ []) → IfOk r (λ p. p.sent ≡ d.sent) → IfOk r (Prepares (advance g now) g)
+tick_ok g now d (Ok p) less so none changes replied logs sent = tick_done g now d p less so none changes replied logs sent
+tick_ok g now d (Err e) less so none changes replied logs sent = tt
+
+pub plain_ok : {P : Type 0} (g : HostImage) (now : ℕ) (d : Draft P) (r : Result (Prepared P) NoMemory) → Ticks g now d
+    → IfOk r (λ p. p.changes ≡ d.changes ++ Count ∷ []) → IfOk r (λ p. InstallNone p.changes)
+plain_ok g now d (Ok p) so changes = tick_plain g now d p so changes
+plain_ok g now d (Err e) so changes = tt

@@ -15,4 +15,3 @@ pub mod Stepping
 pub mod Ticking
 pub mod Holding
 pub mod HostStates
-pub mod Ticking

@@ -90,10 +90,11 @@ impl<P: Drop> Body<P> {
             → Drafts after.now.session g draft.old draft.new (unreachable (so_far g draft.old) place t e) told) }
         ensures number { OnOk result (draft.new.events ≤ draft.old.events + 1) }
     {
-        if is_running(&after.phase) {
-            let event = communication_error(alloc, sendid)?;
-            draft.changes.push(Change::Tell { place, event })?;
+        if !is_running(&after.phase) {
+            return Ok(Delivery::Unreachable);
         }
+        let event = communication_error(alloc, sendid)?;
+        draft.changes.push(Change::Tell { place, event })?;
         Ok(Delivery::Unreachable)
     }
 
@@ -107,6 +108,8 @@ impl<P: Drop> Body<P> {
         event: Event,
     ) -> Result<Delivery, NoMemory>
         requires sender { sender < length self.now.sessions.items }
+        requires there { option_map (λ (s : SessionImage). s.state.session) (slice_get (image self.now).sessions sender)
+            ≡ Some after.now.session }
         requires receiver { receiver < length self.now.sessions.items }
         requires number { draft.old.events + 1 < 2 ^ 128 }
         ensures told { IfOk result (λ told. (g : HostImage) (t : SessionImage)

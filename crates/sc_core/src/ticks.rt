@@ -141,7 +141,9 @@ impl<P: Drop> Body<P> {
         ensures { MatchOption result (filter (is_due now) (drop place self.now.timers.sends) ≡ [])
             (λ t. (slice_get self.now.timers.sends place ≡ Some t.now) × (t.now.due ≤ now)) }
     {
-        let send = self.timers.get(place)?;
+        let Some(send) = self.timers.get(place) else {
+            return None;
+        };
         if send.due > now {
             return None;
         }

@@ -1,21 +1,33 @@
-use Rattle.std.proofs.Common.{rules, ◌≡◌, ◌+◌, ◌-◌, ◌^◌, ◌<◌, ◌≤◌, ◌&&◌, nat_lt, Some, IfOk, IfSome, OnOk, count_by, length, option_map, slice_get, ℕ, ◌*◌, ◌/◌, ◌%◌, Bool, true, false, nat_eq, List, [], ◌∷◌, ◌++◌, slice_index_or, slice_set, bit_and, bit_or, Fits, w8, w32, w64, Bor, MutBor}
-use Rattle.sc_core.specs.Aims.{carried}
-use Rattle.sc_core.specs.Bodies.{Agrees, image, session_image}
-use Rattle.sc_core.specs.Counting.{count_after}
-use Rattle.sc_core.specs.Deliveries.{delay_send, deliver, deliver_of, send_now, undo, unreachable}
-use Rattle.sc_core.specs.Drafts.{Drafts, IsDraft, IsSender, Notes, so_far}
-use Rattle.sc_core.specs.Hosts.{is_live, is_running}
-use Rattle.sc_core.specs.declared.aims.Aim.TheVariants as aim
-use Rattle.sc_types.specs.Sends.{is_send}
-use Rattle.sc_types.specs.declared.event.Event.{Event}
-use Rattle.sc_types.specs.declared.host.HostImage.{HostImage}
-use Rattle.sc_types.specs.declared.host.SessionImage.{SessionImage}
+use Rattle.std.proofs.Common.{◌≡◌, ◌∷◌, [], ◌++◌, ◌+◌, ◌-◌, ◌^◌, ◌&&◌, false, true, nat_lt, ap, sym, ◌∙◌}
+use Rattle.sc_types.specs.declared.history.Delivery.TheVariants.{Timed}
+use Rattle.sc_core.specs.Bodies.{image}
+use Rattle.sc_core.specs.Deliveries.{due_time}
+use Rattle.sc_core.specs.Drafts.{so_far}
+use Rattle.sc_core.specs.Hosts.{is_live}
+use Rattle.sc_core.proofs.DraftLemmas.{delay_drafted, dropped_drafted, next_is, sender_there}
 use Rattle.sc_core.proofs.body.Body.draft_delay.Goals as goal
 
--- src/effects.rt:178:13
 pub returns-then-not-may_delay-clause-told : goal.returns-then-not-may_delay-clause-told
-returns-then-not-may_delay-clause-told g c = ?
+returns-then-not-may_delay-clause-told g c = λ h t sender.
+    let old = c.args.draft.now in
+    let found = sender_there (image c.args.self.now) c.args.place c.args.after.now h old t sender in
+    let no : (is_live t.state.phase && nat_lt old.delayed (2 ^ 64 - 1)) ≡ false =
+    ap (λ p. is_live p && nat_lt old.delayed (2 ^ 64 - 1)) found.is.phase ∙ sym c.if-not-may_delay.ensures in
+    dropped_drafted c.args.after.now.session h old t c.args.to c.args.event c.args.delay sender.draft no
 
--- src/effects.rt:163:5
 pub returns-clause-told : goal.returns-clause-told
-returns-clause-told g c = ?
+returns-clause-told g c = λ h t sender.
+    let old = c.args.draft.now in
+    let k = so_far h old in
+    let after = c.args.after.now in
+    let found = sender_there (image c.args.self.now) c.args.place after h old t sender in
+    let yes : (is_live t.state.phase && nat_lt old.delayed (2 ^ 64 - 1)) ≡ true =
+    ap (λ p. is_live p && nat_lt old.delayed (2 ^ 64 - 1)) found.is.phase ∙ sym c.if-not-may_delay.ensures in
+    let due : c.saturating_add-due.result ≡ due_time k.clock c.args.delay =
+    c.saturating_add-due.ensures
+    ∙ ap (λ n. due_time n c.args.delay) (sym (sender.draft.follows.clock ∙ sender.clock)) in
+    delay_drafted after.session h old _ t c.args.to c.args.event c.args.delay _ _ sender.draft yes
+    (next_is k t c.args.to c.args.event c.args.delay c.in_ok-copy.field-0 (old.delayed + 1) c.saturating_add-due.result
+    (c.in_ok-copy.ensures ∙ sym found.is.session) (ap (λ n. n + 1) sender.draft.delayed) due)
+    (ap (λ cs. record old { changes = cs; delayed = old.delayed + 1 }) c.in_ok-push.ensures.ok)
+    (ap (λ n. Timed (old.delayed + 1) n) due)

@@ -1,17 +1,22 @@
-use Rattle.std.proofs.Common.{rules, ◌≡◌, ◌+◌, ◌-◌, ◌^◌, ◌<◌, ◌≤◌, ◌&&◌, nat_lt, Some, IfOk, IfSome, OnOk, count_by, length, option_map, slice_get, ℕ, ◌*◌, ◌/◌, ◌%◌, Bool, true, false, nat_eq, List, [], ◌∷◌, ◌++◌, slice_index_or, slice_set, bit_and, bit_or, Fits, w8, w32, w64, Bor, MutBor}
-use Rattle.sc_core.specs.Aims.{carried}
-use Rattle.sc_core.specs.Bodies.{Agrees, image, session_image}
-use Rattle.sc_core.specs.Counting.{count_after}
-use Rattle.sc_core.specs.Deliveries.{delay_send, deliver, deliver_of, send_now, undo, unreachable}
-use Rattle.sc_core.specs.Drafts.{Drafts, IsDraft, IsSender, Notes, so_far}
-use Rattle.sc_core.specs.Hosts.{is_live, is_running}
-use Rattle.sc_core.specs.declared.aims.Aim.TheVariants as aim
-use Rattle.sc_types.specs.Sends.{is_send}
-use Rattle.sc_types.specs.declared.event.Event.{Event}
-use Rattle.sc_types.specs.declared.host.HostImage.{HostImage}
-use Rattle.sc_types.specs.declared.host.SessionImage.{SessionImage}
+use Rattle.std.proofs.Common.{◌≡◌, ◌∷◌, [], ◌++◌, false, true, codes, ap, sym, ◌∙◌}
+use Rattle.sc_types.specs.declared.event.Data.TheVariants.{Absent}
+use Rattle.sc_law.specs.Runs.{platform_event}
+use Rattle.sc_core.specs.Bodies.{image}
+use Rattle.sc_core.specs.Hosts.{is_running}
+use Rattle.sc_core.proofs.DraftLemmas.{hears_drafted, sender_there, unheard_drafted}
 use Rattle.sc_core.proofs.body.Body.draft_failure.Goals as goal
 
--- src/effects.rt:80:5
+pub returns-then-not-is_running-clause-told : goal.returns-then-not-is_running-clause-told
+returns-then-not-is_running-clause-told g c = λ h t e sender same.
+    let found = sender_there (image c.args.self.now) c.args.place c.args.after.now h c.args.draft.now t sender in
+    let stopped : is_running t.state.phase ≡ false = ap is_running found.is.phase ∙ sym c.if-not-is_running.ensures in
+    unheard_drafted c.args.after.now.session h c.args.draft.now c.args.place t e sender.draft stopped
+
 pub returns-clause-told : goal.returns-clause-told
-returns-clause-told g c = ?
+returns-clause-told g c = λ h t e sender same.
+    let old = c.args.draft.now in
+    let found = sender_there (image c.args.self.now) c.args.place c.args.after.now h old t sender in
+    let runs : is_running t.state.phase ≡ true = ap is_running found.is.phase ∙ sym c.if-not-is_running.ensures in
+    hears_drafted c.args.after.now.session h old _ c.args.place t e c.in_ok-event.event sender.draft sender.there runs
+    (c.in_ok-event.ensures ∙ ap (λ id. platform_event (codes "error.communication") id Absent) (sym same))
+    (ap (λ cs. record old { changes = cs }) c.in_ok-push.ensures.ok)

@@ -1,17 +1,34 @@
-use Rattle.std.proofs.Common.{rules, ◌≡◌, ◌+◌, ◌-◌, ◌^◌, ◌<◌, ◌≤◌, ◌&&◌, nat_lt, Some, IfOk, IfSome, OnOk, count_by, length, option_map, slice_get, ℕ, ◌*◌, ◌/◌, ◌%◌, Bool, true, false, nat_eq, List, [], ◌∷◌, ◌++◌, slice_index_or, slice_set, bit_and, bit_or, Fits, w8, w32, w64, Bor, MutBor}
-use Rattle.sc_core.specs.Aims.{carried}
-use Rattle.sc_core.specs.Bodies.{Agrees, image, session_image}
-use Rattle.sc_core.specs.Counting.{count_after}
-use Rattle.sc_core.specs.Deliveries.{delay_send, deliver, deliver_of, send_now, undo, unreachable}
-use Rattle.sc_core.specs.Drafts.{Drafts, IsDraft, IsSender, Notes, so_far}
-use Rattle.sc_core.specs.Hosts.{is_live, is_running}
-use Rattle.sc_core.specs.declared.aims.Aim.TheVariants as aim
-use Rattle.sc_types.specs.Sends.{is_send}
-use Rattle.sc_types.specs.declared.event.Event.{Event}
-use Rattle.sc_types.specs.declared.host.HostImage.{HostImage}
+use Rattle.std.proofs.Common.{◌≡◌, ◌+◌, Some, option_map, slice_get, ap, sym, ◌∙◌}
+use Rattle.std.proofs.lemmas.Option.{same_Some}
+use Rattle.sc_types.specs.declared.history.Delivery.TheVariants.{Queued}
 use Rattle.sc_types.specs.declared.host.SessionImage.{SessionImage}
+use Rattle.sc_core.specs.Aims.{invokeid_for}
+use Rattle.sc_core.specs.Bodies.{image}
+use Rattle.sc_core.specs.Changes.{with_invokeid}
+use Rattle.sc_core.proofs.AimLemmas.{arrives}
+use Rattle.sc_core.proofs.DraftLemmas.{queue_drafted, receiver_is, sender_there}
+use Rattle.sc_core.proofs.SetLemmas.{image_at}
 use Rattle.sc_core.proofs.body.Body.draft_queue.Goals as goal
 
--- src/effects.rt:101:5
 pub returns-clause-told : goal.returns-clause-told
-returns-clause-told g c = ?
+returns-clause-told g c = λ h t sender.
+    let old = c.args.draft.now in
+    let before = image c.args.self.now in
+    let after = c.args.after.now in
+    let e = c.args.event in
+    let name = c.in_ok-name.name in
+    let there = image_at c.args.self.now.sessions.items c.args.receiver c.in-Some.session.now (sym c.in-Some.ensures) in
+    let named : option_map (λ (s : SessionImage). s.state.session) (slice_get before.sessions c.args.receiver) ≡ Some name =
+    ap (λ o. option_map (λ (s : SessionImage). s.state.session) o) there ∙ ap Some (sym c.in_ok-name.ensures) in
+    let found = sender_there before c.args.sender after h old t sender in
+    let at = receiver_is before c.args.sender after h old t c.args.receiver name sender c.requires.there named in
+    let r = at.0 in
+    let invoker : t.invoker ≡ c.invoker_at.result.now =
+    found.is.invoker ∙ same_Some found.session.invoker c.invoker_at.result.now
+    (sym (ap (λ o. option_map (λ (s : SessionImage). s.invoker) o) found.there) ∙ c.invoker_at.ensures) in
+    queue_drafted after.session h old _ c.args.sender c.args.receiver t r e c.with_invokeid.result _ sender.draft at.1
+    (c.with_invokeid.ensures ∙ ap (with_invokeid e) (c.in_ok-invokeid.ensures
+    ∙ ap (λ i. invokeid_for i name) (sym invoker) ∙ ap (invokeid_for t.invoker) (sym at.2))
+    ∙ arrives t r.state.session e) c.requires.number
+    (ap (λ cs. record old { changes = cs; events = old.events + 1 }) c.in_ok-push.ensures.ok)
+    (ap (λ n. Queued (old.events + 1) n) (sym at.2))

@@ -1,25 +1,47 @@
-use Rattle.std.proofs.Common.{rules, ◌≡◌, ◌+◌, ◌-◌, ◌^◌, ◌<◌, ◌≤◌, ◌&&◌, nat_lt, Some, IfOk, IfSome, OnOk, count_by, length, option_map, slice_get, ℕ, ◌*◌, ◌/◌, ◌%◌, Bool, true, false, nat_eq, List, [], ◌∷◌, ◌++◌, slice_index_or, slice_set, bit_and, bit_or, Fits, w8, w32, w64, Bor, MutBor}
+use Rattle.std.proofs.Common.{refl, sym, ◌∙◌}
+use Rattle.sc_types.specs.declared.history.Delivery.TheVariants.{Dropped}
 use Rattle.sc_core.specs.Aims.{carried}
-use Rattle.sc_core.specs.Bodies.{Agrees, image, session_image}
-use Rattle.sc_core.specs.Counting.{count_after}
-use Rattle.sc_core.specs.Deliveries.{delay_send, deliver, deliver_of, send_now, undo, unreachable}
-use Rattle.sc_core.specs.Drafts.{Drafts, IsDraft, IsSender, Notes, so_far}
-use Rattle.sc_core.specs.Hosts.{is_live, is_running}
-use Rattle.sc_core.specs.declared.aims.Aim.TheVariants as aim
-use Rattle.sc_types.specs.Sends.{is_send}
-use Rattle.sc_types.specs.declared.event.Event.{Event}
-use Rattle.sc_types.specs.declared.host.HostImage.{HostImage}
-use Rattle.sc_types.specs.declared.host.SessionImage.{SessionImage}
+use Rattle.sc_core.specs.Bodies.{image}
+use Rattle.sc_core.specs.Deliveries.{left_as, send_now, unreachable}
+use Rattle.sc_core.specs.Drafts.{so_far}
+use Rattle.sc_core.specs.declared.aims.Aim.TheVariants.{Drops, Fails, Reaches}
+use Rattle.sc_core.proofs.DraftLemmas.{drafts_same, each_ok, none_drafted, send_aimed}
 use Rattle.sc_core.proofs.body.Body.draft_send.Goals as goal
 
--- src/effects.rt:136:5
 pub returns-in-Reaches-clause-told : goal.returns-in-Reaches-clause-told
-returns-in-Reaches-clause-told g c = ?
+returns-in-Reaches-clause-told g c =
+    let old = c.args.draft.now in
+    let before = image c.args.self.now in
+    let after = c.args.after.now in
+    let e = c.args.event in
+    each_ok (λ told drafted h t sender. drafts_same after.session h old _
+    (carried (so_far h old) c.args.place t e (Reaches c.in-Reaches.receiver))
+    (send_now (so_far h old) c.args.place t c.args.to.now e) told
+    (send_aimed before c.args.place after h old t c.args.to.now e c.invoker_at.result.now (Reaches c.in-Reaches.receiver)
+    sender c.invoker_at.ensures (λ s named invoked. sym c.in-Reaches.is ∙ c.aim.ensures.aim s named invoked))
+    (drafted h t sender)) c.draft_queue.result c.draft_queue.ensures.told
 
--- src/effects.rt:136:5
 pub returns-in-Fails-clause-told : goal.returns-in-Fails-clause-told
-returns-in-Fails-clause-told g c = ?
+returns-in-Fails-clause-told g c =
+    let old = c.args.draft.now in
+    let before = image c.args.self.now in
+    let after = c.args.after.now in
+    let e = c.args.event in
+    each_ok (λ told drafted h t sender. drafts_same after.session h old _
+    (unreachable (so_far h old) c.args.place t e)
+    (send_now (so_far h old) c.args.place t c.args.to.now e) told
+    (send_aimed before c.args.place after h old t c.args.to.now e c.invoker_at.result.now Fails
+    sender c.invoker_at.ensures (λ s named invoked. sym c.in-Fails.is ∙ c.aim.ensures.aim s named invoked))
+    (drafted h t e sender refl)) c.draft_failure.result c.draft_failure.ensures.told
 
--- src/effects.rt:136:5
 pub returns-in-Drops-clause-told : goal.returns-in-Drops-clause-told
-returns-in-Drops-clause-told g c = ?
+returns-in-Drops-clause-told g c = λ h t sender.
+    let old = c.args.draft.now in
+    let before = image c.args.self.now in
+    let after = c.args.after.now in
+    let e = c.args.event in
+    let d = left_as (so_far h old) Dropped in
+    drafts_same after.session h old old d (send_now (so_far h old) c.args.place t c.args.to.now e) Dropped
+    (send_aimed before c.args.place after h old t c.args.to.now e c.invoker_at.result.now Drops
+    sender c.invoker_at.ensures (λ s named invoked. sym c.in-Drops.is ∙ c.aim.ensures.aim s named invoked))
+    (none_drafted after.session h old d Dropped sender.draft refl refl)

@@ -1,33 +1,24 @@
-use Rattle.std.proofs.Common.{rules, ◌≡◌, ◌+◌, ◌-◌, ◌^◌, ◌<◌, ◌≤◌, ◌&&◌, nat_lt, Some, IfOk, IfSome, OnOk, count_by, length, option_map, slice_get, ℕ, ◌*◌, ◌/◌, ◌%◌, Bool, true, false, nat_eq, List, [], ◌∷◌, ◌++◌, slice_index_or, slice_set, bit_and, bit_or, Fits, w8, w32, w64, Bor, MutBor}
-use Rattle.sc_core.specs.Aims.{carried}
-use Rattle.sc_core.specs.Bodies.{Agrees, image, session_image}
-use Rattle.sc_core.specs.Counting.{count_after}
-use Rattle.sc_core.specs.Deliveries.{delay_send, deliver, deliver_of, send_now, undo, unreachable}
-use Rattle.sc_core.specs.Drafts.{Drafts, IsDraft, IsSender, Notes, so_far}
-use Rattle.sc_core.specs.Hosts.{is_live, is_running}
-use Rattle.sc_core.specs.declared.aims.Aim.TheVariants as aim
+use Rattle.std.proofs.Common.{◌+◌, count_by, drop, ap, sym, ◌∙◌}
 use Rattle.sc_types.specs.Sends.{is_send}
-use Rattle.sc_types.specs.declared.event.Event.{Event}
-use Rattle.sc_types.specs.declared.host.HostImage.{HostImage}
-use Rattle.sc_types.specs.declared.host.SessionImage.{SessionImage}
+use Rattle.sc_core.proofs.CountLemmas.{counted, counted_is}
+use Rattle.sc_core.proofs.RoomLemmas.{drop_at, drop_past}
 use Rattle.sc_core.proofs.body.Body.pending.Goals as goal
 
--- src/effects.rt:206:9
-pub loop-change-init : goal.loop-change-init
-loop-change-init g c = ?
-
--- src/effects.rt:208:13
-pub overflow_add-place : goal.overflow_add-place
-overflow_add-place g c = ?
-
--- src/effects.rt:206:9
-pub loop-change-smaller : goal.loop-change-smaller
-loop-change-smaller g c = ?
-
--- src/effects.rt:206:9
 pub loop-change-preserved : goal.loop-change-preserved
-loop-change-preserved g c = ?
+loop-change-preserved g c =
+    let session = c.args.session.now in
+    let id = c.args.id.now in
+    let changes = c.args.draft.now.changes in
+    let at = drop_at changes c.loop-change.place c.in-Some.change.now (sym c.in-Some.ensures.value) in
+    ap (counted session id (drop (c.loop-change.place + 1) changes)) c.in_ok-count.ensures
+    ∙ sym (ap (λ cs. counted session id cs c.loop-change.count) at) ∙ c.loop-change.invariant
 
--- src/effects.rt:195:5
 pub returns : goal.returns
-returns g c = ?
+returns g c = λ h timers draft.
+    let session = c.args.session.now in
+    let id = c.args.id.now in
+    let changes = c.args.draft.now.changes in
+    let past = drop_past changes c.loop-change.place (sym c.in_default.ensures.value) in
+    sym (ap (λ cs. counted session id cs c.loop-change.count) past) ∙ c.loop-change.invariant
+    ∙ ap (λ ts. counted session id changes (count_by (is_send session id) ts)) (sym timers)
+    ∙ counted_is session id changes h draft.of_step
