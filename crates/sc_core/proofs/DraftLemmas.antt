@@ -148,7 +148,8 @@ sender_is before place after g d t s there sender =
       invoker = ap (λ (o : Outline). o.invoker) same;
     }
 
-put_long : (g : HostImage) (place : ℕ) (after : SessionState) → length (put_state g place after).sessions ≡ length g.sessions
+-- a session is put in, and none is added
+pub put_long : (g : HostImage) (place : ℕ) (after : SessionState) → length (put_state g place after).sessions ≡ length g.sessions
 put_long g place after = by (slice_get g.sessions place)
   where
     put : SessionImage → HostImage
@@ -188,7 +189,7 @@ name_map : (ss : List SessionImage) → map name_of ss ≡ map (λ (o : Outline)
 name_map [] = refl
 name_map (s ∷ ss) = ap (λ ns. s.state.session ∷ ns) (name_map ss)
 
-some_map : (o : Option SessionImage) (n : List ℕ) → option_map name_of o ≡ Some n
+pub some_map : (o : Option SessionImage) (n : List ℕ) → option_map name_of o ≡ Some n
     → (r : SessionImage) × (o ≡ Some r) × (r.state.session ≡ n)
 some_map None n h = absurd cc
 some_map (Some r) n h = (r, refl, same_Some r.state.session n h)

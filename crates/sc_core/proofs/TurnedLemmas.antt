@@ -1,12 +1,13 @@
 -- What is prepared of a step is the step.
-use Rattle.std.proofs.Common.{◌≡◌, ℕ, ◌+◌, ◌^◌, ◌<◌, ◌≤◌, ◌++◌, zero, suc, All, Option, Some, None, List, [], ◌∷◌, drop, length, map, option_map, slice_get, slice_set, refl, sym, ap, subst, ◌∙◌, arith}
+use Rattle.std.proofs.Common.{append-nil, get_or, ◌≡◌, ℕ, ◌+◌, ◌^◌, ◌<◌, ◌≤◌, ◌++◌, zero, suc, All, Option, Some, None, List, [], ◌∷◌, drop, length, map, option_map, slice_get, slice_set, refl, sym, ap, subst, ◌∙◌, arith}
 use Rattle.std.specs.List.{AllByRecursion}
 use Rattle.std.specs.Option.{option_map_or}
 use Rattle.std.proofs.lemmas.List.{append_assoc, length-set, map-set}
-use Rattle.std.proofs.lemmas.Option.{slice_get_within}
+use Rattle.std.proofs.lemmas.Option.{slice_get-get_or, slice_get_within}
 use Rattle.sc_types.specs.declared.chart.Chart.{Chart}
+use Rattle.sc_types.specs.declared.effect.Effect.{Effect}
 use Rattle.sc_types.specs.declared.event.Event.{Event}
-use Rattle.sc_types.specs.declared.history.Delivery.{Delivery}
+use Rattle.sc_types.specs.declared.history.LogLine.{LogLine}
 use Rattle.sc_types.specs.declared.host.HostImage.{HostImage}
 use Rattle.sc_types.specs.declared.host.SessionImage.{SessionImage}
 use Rattle.sc_types.specs.declared.session.Cue.{Cue}
@@ -15,8 +16,8 @@ use Rattle.sc_types.specs.declared.session.SessionState.{SessionState}
 use Rattle.sc_law.specs.Turn.{TurnResult}
 use Rattle.sc_core.specs.Aims.{outline, outlines}
 use Rattle.sc_core.specs.Changes.{put_state, take_front}
-use Rattle.sc_core.specs.Commands.{put_in, step_turn}
-use Rattle.sc_core.specs.Deliveries.{deliver, deliver_all, end_at}
+use Rattle.sc_core.specs.Commands.{fresh_session, put_in, step_turn}
+use Rattle.sc_core.specs.Deliveries.{DeliveredAll, deliver, deliver_all, end_at}
 use Rattle.sc_core.specs.Drafts.{AreNumbered, DraftsAll, Follows, IsBase, IsDraft, IsOfStep, IsSender, Notes, so_far}
 use Rattle.sc_core.specs.Hosts.{with_session}
 use Rattle.sc_core.specs.HostStates.{ArePlanned}
@@ -28,7 +29,7 @@ use Rattle.sc_core.specs.declared.change.Change.TheVariants.{Advance, Count, Del
 use Rattle.sc_core.specs.declared.draft.Draft.{Draft}
 use Rattle.sc_core.specs.declared.prepared.Prepared.{Prepared}
 use Rattle.sc_core.proofs.AimLemmas.{set_here}
-use Rattle.sc_core.proofs.DraftLemmas.{within_outlines}
+use Rattle.sc_core.proofs.DraftLemmas.{put_long, within_outlines}
 use Rattle.sc_core.proofs.MoveLemmas.{commands_moved, end_moves}
 
 -- ---- several changes more
@@ -193,3 +194,88 @@ step_prepared {P = P} g place s cue t d p there named commands drafted changes r
           (subst (λ n. HaveTargets n d.changes) (length-set g.sessions place (put_in s cue t)) drafted.draft.targets)
           (tt, (tt, tt))));
     }
+
+-- ---- effects one after another
+
+-- what is drafted so far, and what the other effects do, make what all do
+pub record DraftsOn {P : Type 0} (name : List ℕ) (g : HostImage) (place : ℕ) (d : Draft P) (rest : List Effect)
+    (all : DeliveredAll) : Type 0 where
+  pub draft : IsDraft name g d
+  pub host : (deliver_all (so_far g d) place rest).host ≡ all.host
+  pub sent : d.sent ++ (deliver_all (so_far g d) place rest).sent ≡ all.sent
+
+-- before the first effect
+pub none_yet : {P : Type 0} (before : HostImage) (place : ℕ) (after : SessionState) (g : HostImage) (d : Draft P)
+    (effects : List Effect) → IsBase before place after g
+    → d ≡ record { changes = []; sent = []; events = before.events; delayed = before.delayed }
+    → DraftsOn after.session g place d effects (deliver_all g place effects)
+none_yet {P = P} before place after g d effects base is =
+    subst (λ (x : Draft P). DraftsOn after.session g place x effects (deliver_all g place effects)) (sym is) (record {
+      draft = record {
+        can = tt;
+        targets = tt;
+        of_step = tt;
+        events = sym base.events;
+        delayed = sym base.delayed;
+        follows = record { outlines = refl; clock = refl; commands = refl; sends = base.sends };
+      };
+      host = refl;
+      sent = refl;
+    })
+
+-- the session that sends stands there
+sender_at : {P : Type 0} (before : HostImage) (place : ℕ) (after : SessionState) (g : HostImage) (d : Draft P)
+    → IsBase before place after g → IsDraft after.session g d → place < length before.sessions
+    → (t : SessionImage) × IsSender before place after g d t
+sender_at before place after g d base draft within =
+    let long = within_outlines g (so_far g d) draft.follows.outlines in
+    let short = within_outlines (put_state before place after) g base.outlines in
+    let less : place < length (so_far g d).sessions = omega (arith, within, long, short, put_long before place after) in
+    let t = get_or (so_far g d).sessions place (fresh_session [] []) in
+    (t, record {
+      outlines = base.outlines;
+      clock = base.clock;
+      timers = base.timers;
+      draft = draft;
+      there = slice_get-get_or (so_far g d).sessions place (fresh_session [] []) less;
+    })
+
+-- one effect more is drafted
+pub one_on : {P : Type 0} (before : HostImage) (place : ℕ) (after : SessionState) (g : HostImage) (d new : Draft P) (e : Effect)
+    (rest : List Effect) (all : DeliveredAll) → IsBase before place after g → place < length before.sessions
+    → ((h : HostImage) (t : SessionImage) → IsSender before place after h d t
+        → Notes after.session h d new (deliver (so_far h d) place e))
+    → DraftsOn after.session g place d (e ∷ rest) all → DraftsOn after.session g place new rest all
+one_on before place after g d new e rest all base within notes on =
+    let sender = sender_at before place after g d base on.draft within in
+    let n = notes g sender.0 sender.1 in
+    let one = deliver (so_far g d) place e in
+    record {
+      draft = n.draft;
+      host = ap (λ h. (deliver_all h place rest).host) n.host ∙ on.host;
+      sent = ap (λ s. s ++ (deliver_all (so_far g new) place rest).sent) n.sent
+          ∙ append_assoc d.sent (one.what ∷ []) (deliver_all (so_far g new) place rest).sent
+          ∙ ap (λ h. d.sent ++ (one.what ∷ (deliver_all h place rest).sent)) n.host ∙ on.sent;
+    }
+
+-- all are drafted
+pub none_left : {P : Type 0} (name : List ℕ) (g : HostImage) (place : ℕ) (d : Draft P) (all : DeliveredAll)
+    → DraftsOn name g place d [] all → DraftsAll name g d all
+none_left name g place d all on = record { draft = on.draft; host = on.host; sent = sym (append-nil d.sent) ∙ on.sent }
+
+-- ---- the parts of a turn
+
+pub joined : {X : Type 0} (xs ys : List X) (a b : X) → ((xs ++ ys) ++ a ∷ []) ++ b ∷ [] ≡ xs ++ (ys ++ a ∷ b ∷ [])
+joined xs ys a b = append_assoc (xs ++ ys) (a ∷ []) (b ∷ []) ∙ append_assoc xs ys (a ∷ b ∷ [])
+
+-- what was drafted of a turn's parts was drafted of the turn
+pub turn_drafted : {P : Type 0} (before : HostImage) (place : ℕ) (s : SessionImage) (cue : Cue) (d : Draft P)
+    (r : SessionState × List Effect × List LogLine) (t : TurnResult) → r ≡ (t.after, t.effects, t.logs)
+    → slice_get before.sessions place ≡ Some s → AreNumbered before
+    → ((g : HostImage) → IsBase before place r.0 g → DraftsAll r.0.session g d (deliver_all g place r.1))
+    → DraftsAll t.after.session (with_session before place (put_in s cue t)) d
+        (deliver_all (with_session before place (put_in s cue t)) place t.effects)
+turn_drafted before place s cue d r t is there numbers drafted =
+    let g = with_session before place (put_in s cue t) in
+    subst (λ (x : SessionState × List Effect × List LogLine). IsBase before place x.0 g
+        → DraftsAll x.0.session g d (deliver_all g place x.1)) is (drafted g) (put_base before place s cue t there numbers)
