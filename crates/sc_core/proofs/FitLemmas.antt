@@ -45,7 +45,7 @@ place_more p (x ∷ xs) ys h = by (p x) h (place_more p xs ys) where
   by true h so = (refl, omega arith)
   by false h so = let less = (so h).1 in (ap (λ n. 1 + n) (so h).0, omega (arith, less))
 
-no_chart : ChartImage
+pub no_chart : ChartImage
 no_chart = record { name = []; text = [] }
 
 get_more : (xs ys : List ChartImage) (i : ℕ) → i < length xs → slice_get (xs ++ ys) i ≡ slice_get xs i
@@ -222,7 +222,7 @@ hears-fits g s sendid running f = record {
 
 -- ---- plans
 
-legal_of : (r : Result Chart ChartFault) (k : Chart) → legal_or_fault r ≡ Ok k → legal_fault k ≡ None
+pub legal_of : (r : Result Chart ChartFault) (k : Chart) → legal_or_fault r ≡ Ok k → legal_fault k ≡ None
 legal_of (Err fault) k h = absurd (cc)
 legal_of (Ok c) k h = by (legal_fault c) refl h where
   by : (o : Option ChartFault) → legal_fault c ≡ o → option_map_or Err o (Ok c) ≡ Ok k → legal_fault k ≡ None

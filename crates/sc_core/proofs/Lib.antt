@@ -12,7 +12,9 @@ pub mod InstallLemmas
 pub mod MoveLemmas
 pub mod NameLemmas
 pub mod Once
+pub mod PlanLemmas
 pub mod PrepareLemmas
+pub mod ReadyLemmas
 pub mod RoomLemmas
 pub mod SetLemmas
 pub mod SoundLemmas

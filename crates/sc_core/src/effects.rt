@@ -206,6 +206,8 @@ impl<P: Drop> Body<P> {
     {
         let mut count = self.timers.count(session.bytes(), id.slice());
         let mut place = 0;
+        // A length fits a usize, so the place cannot run out.
+        let _end = draft.changes.len();
         while let Some(change) = draft.changes.get(place) {
             count = count_after(change, session, id, count)?;
             place += 1;

@@ -7,6 +7,7 @@ ghost use Rattle.sc_types.specs.declared.host.SessionImage.{SessionImage};
 
 use crate::cues::cue_of;
 use crate::host_state::HostState;
+use crate::plans::chart_at;
 use sc_base::{NoMemory, Word};
 use sc_law::Engine;
 use sc_types::{Cue, SessionState};
@@ -46,10 +47,7 @@ impl<E: Engine> HostState<E> {
         ensures { (s : SessionImage) → slice_get self.now.image.sessions place ≡ Some s
             → E.chart_of (arc_value result.now) ≡ chart_named self.now.image s.state.chart }
     {
-        match self.body.plan_named(&self.state(place).chart) {
-            Some(plan) => plan,
-            None => unreachable!(),
-        }
+        &chart_at::<E>(&self.body, place).plan
     }
 
     /// How many events wait in the external queue of the session at a place.
@@ -79,7 +77,9 @@ impl<E: Engine> HostState<E> {
     pub fn ready_session(&self) -> Option<&Word>
         ensures { option_copied result ≡ ready self.now.image }
     {
-        let place = self.body.ready(0)?;
-        self.body.sessions.name(place)
+        match self.body.ready(0) {
+            Some(place) => self.body.sessions.name(place),
+            None => None,
+        }
     }
 }

@@ -1,37 +1,50 @@
-ghost use Rattle.std.specs.Prelude.{◌≡◌, ◌<◌, [], All, IfOk, MatchOption, None, Some, false, length, option_map, slice_get};
+ghost use Rattle.std.specs.Prelude.{◌≡◌, ◌<◌, [], IfOk, Some, length, option_and_then, option_map, slice_get};
 ghost use Rattle.std.specs.Arc.{arc_value};
-ghost use Rattle.sc_types.specs.declared.chart.Chart.{Chart};
+ghost use Rattle.std.specs.Option.{option_copied};
 ghost use Rattle.sc_law.specs.Fitting.{Fits};
-ghost use Rattle.sc_law.specs.Legality.{legal_fault};
 ghost use Rattle.sc_law.specs.Turned.{IsTurnOf};
 ghost use Rattle.sc_core.specs.Bodies.{Agrees, image};
 ghost use Rattle.sc_core.specs.Cues.{cue_of};
 ghost use Rattle.sc_core.specs.Holding.{IsHeld};
-ghost use Rattle.sc_core.specs.Hosts.{chart_named, has_chart};
-ghost use Rattle.sc_core.specs.HostStates.{IsPlanned};
+ghost use Rattle.sc_core.specs.Hosts.{chart_named, chart_place};
 ghost use Rattle.sc_core.specs.declared.session.Session.{Session};
 ghost use Rattle.sc_types.specs.declared.host.SessionImage.{SessionImage};
 
-use crate::body::Body;
+use crate::body::{Body, InstalledChart};
 use sc_base::{NoMemory, Word};
 use sc_law::{Engine, Turned};
 use sc_types::{Cue, Phase};
 use std::alloc::Global;
-use std::sync::Arc;
 
 impl<P: Drop> Body<P> {
-    /// The plan of the chart of a name.
-    pub(crate) fn plan_named(&self, name: &Word) -> Option<&Arc<P>>
+    /// The installed chart of a name, with its plan.
+    pub(crate) fn chart_named(&self, name: &Word) -> Option<&InstalledChart<P>>
         requires agrees { Agrees self.now }
-        ensures { (chart_of : P → Chart) → All (IsPlanned chart_of) self.now.charts.items
-            → MatchOption result (has_chart (image self.now) name.now ≡ false)
-            (λ plan. (chart_of (arc_value plan.now) ≡ chart_named (image self.now) name.now)
-            × (legal_fault (chart_of (arc_value plan.now)) ≡ None)) }
+        ensures { option_copied result
+            ≡ option_and_then (slice_get self.now.charts.items) (chart_place (image self.now) name.now) }
     {
         let place = self.chart_place(name)?;
-        let chart = self.charts.get(place)?;
-        Some(&chart.plan)
+        self.charts.get(place)
     }
+}
+
+/// The installed chart that the session at a place runs.
+pub(crate) fn chart_at<E: Engine>(
+    body: &Body<E::Plan>,
+    place: usize,
+) -> &InstalledChart<E::Plan>
+    requires held { IsHeld E.chart_of body.now }
+    requires within { place < length body.now.sessions.items }
+    ensures { (s : SessionImage) → slice_get (image body.now).sessions place ≡ Some s
+        → E.chart_of (arc_value result.now.plan) ≡ chart_named (image body.now) s.state.chart }
+{
+    let Some(session) = body.sessions.get(place) else {
+        unreachable!();
+    };
+    let Some(chart) = body.chart_named(&session.state.chart) else {
+        unreachable!();
+    };
+    chart
 }
 
 /// The turn of the session at a place, whose internal queue is in one part.
@@ -53,8 +66,8 @@ pub(crate) fn turn_of<E: Engine>(
     let Some(session) = body.sessions.get(place) else {
         unreachable!();
     };
-    let Some(plan) = body.plan_named(&session.state.chart) else {
+    let Some(chart) = body.chart_named(&session.state.chart) else {
         unreachable!();
     };
-    e.turn(alloc, plan, &session.state, cue)
+    e.turn(alloc, &chart.plan, &session.state, cue)
 }

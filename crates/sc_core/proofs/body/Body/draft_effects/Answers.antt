@@ -48,7 +48,7 @@ pub returns : goal.returns
 returns g c = λ h base.
     let was = c.loop-effect in
     let after = c.args.after.now in
-    let items : into_iter_items was.effect-iterator ≡ [] = search rules in
+    let items : into_iter_items was.effect-iterator ≡ [] = search (c.in-None.ensures, rules) in
     none_left after.session h c.args.place was.draft (deliver_all h c.args.place c.args.effects)
     (subst (λ (xs : List Effect). DraftsOn after.session h c.args.place was.draft xs
     (deliver_all h c.args.place c.args.effects)) items (was.invariant.drafts h base))

@@ -1,0 +1,53 @@
+use Rattle.std.proofs.Common.{ap, subst, sym, ◌∙◌}
+use Rattle.sc_types.specs.declared.session.Phase.TheVariants.{Running}
+use Rattle.sc_law.specs.Fitting.{Fits}
+use Rattle.sc_law.specs.Legality.{legal_fault}
+use Rattle.sc_core.proofs.DraftLemmas.{each_ok}
+use Rattle.sc_core.proofs.PlanLemmas.{IsTurning, chart_there, fits_seen, turn_seen, turning}
+use Rattle.sc_core.proofs.plans.turn_of.Goals as goal
+
+pub unreachable-requires-in_default-chart_named : goal.unreachable-requires-in_default-chart_named
+unreachable-requires-in_default-chart_named g c =
+    chart_there g.E.Engine.chart_of c.args.body.now c.args.place c.in-Some.session.now c.requires.held
+    (sym c.in-Some.ensures) c.in_default-chart_named.ensures
+
+pub turn-requires-clause-legal : goal.turn-requires-clause-legal
+turn-requires-clause-legal g c =
+    let is = turning g.E.Engine.chart_of c.args.body.now c.args.place c.in-Some.session.now c.args.cue.now
+    c.in-Some-chart_named.chart.now c.requires.held (sym c.in-Some.ensures) c.requires.settled c.requires.cue
+    c.in-Some-chart_named.ensures in
+    ap (λ p. legal_fault (g.E.Engine.chart_of p)) c.deref.ensures ∙ is.legal
+
+pub turn-requires-clause-fits : goal.turn-requires-clause-fits
+turn-requires-clause-fits g c =
+    let is = turning g.E.Engine.chart_of c.args.body.now c.args.place c.in-Some.session.now c.args.cue.now
+    c.in-Some-chart_named.chart.now c.requires.held (sym c.in-Some.ensures) c.requires.settled c.requires.cue
+    c.in-Some-chart_named.ensures in
+    subst (λ p. Fits (g.E.Engine.chart_of p) c.in-Some.session.now.state) (sym c.deref.ensures) is.fits
+
+pub turn-requires-clause-cue : goal.turn-requires-clause-cue
+turn-requires-clause-cue g c =
+    let is = turning g.E.Engine.chart_of c.args.body.now c.args.place c.in-Some.session.now c.args.cue.now
+    c.in-Some-chart_named.chart.now c.requires.held (sym c.in-Some.ensures) c.requires.settled c.requires.cue
+    c.in-Some-chart_named.ensures in
+    is.cue
+
+pub returns-clause-turn : goal.returns-clause-turn
+returns-clause-turn g c =
+    let body = c.args.body.now in
+    let s = c.in-Some.session.now in
+    let is = turning g.E.Engine.chart_of body c.args.place s c.args.cue.now c.in-Some-chart_named.chart.now c.requires.held
+    (sym c.in-Some.ensures) c.requires.settled c.requires.cue c.in-Some-chart_named.ensures in
+    let seen = subst (λ p. IsTurning body s c.args.cue.now (g.E.Engine.chart_of p)) (sym c.deref.ensures) is in
+    each_ok (λ t turn x there. turn_seen body c.args.place s c.args.cue.now (g.E.Engine.chart_of c.deref.result.now) t x
+    (sym c.in-Some.ensures) there seen turn) c.turn.result c.turn.ensures.turn
+
+pub returns-clause-fits : goal.returns-clause-fits
+returns-clause-fits g c =
+    let body = c.args.body.now in
+    let s = c.in-Some.session.now in
+    let is = turning g.E.Engine.chart_of body c.args.place s c.args.cue.now c.in-Some-chart_named.chart.now c.requires.held
+    (sym c.in-Some.ensures) c.requires.settled c.requires.cue c.in-Some-chart_named.ensures in
+    let seen = subst (λ p. IsTurning body s c.args.cue.now (g.E.Engine.chart_of p)) (sym c.deref.ensures) is in
+    each_ok (λ t fits x there running. fits_seen body c.args.place s c.args.cue.now (g.E.Engine.chart_of c.deref.result.now)
+    t.after x (sym c.in-Some.ensures) there seen (fits running)) c.turn.result c.turn.ensures.fits
