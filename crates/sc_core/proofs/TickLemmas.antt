@@ -1,5 +1,5 @@
 -- What is drafted of the sends that come due is what they do.
-use Rattle.std.proofs.Common.{IfOk, Result, Ok, Err, append-nil, ◌≡◌, ℕ, ◌+◌, ◌^◌, ◌<◌, ◌≤◌, ◌||◌, ◌&&◌, ◌==◌, nat_le, nat_lt, zero, suc, Bool, true, false, not, filter, cond, Option, Some, None, option_map, option_and_then, if◌then◌else◌, List, [], ◌∷◌, ◌++◌, codes, drop, length, map, position, slice_get, refl, arith, sym, ap, subst, ◌∙◌}
+use Rattle.std.proofs.Common.{IfOk, Result, Ok, Err, append-nil, ◌≡◌, ℕ, ◌+◌, ◌^◌, ◌<◌, ◌≤◌, nat_le, zero, suc, Bool, true, false, not, filter, cond, Option, Some, None, option_map, option_and_then, if◌then◌else◌, List, [], ◌∷◌, ◌++◌, drop, length, position, slice_get, refl, arith, sym, ap, subst, ◌∙◌}
 use Rattle.std.proofs.lemmas.Bool.Decides.{nat_tests}
 use Rattle.std.proofs.lemmas.List.{length-append, length-map, append_assoc}
 use Rattle.std.proofs.lemmas.Option.{slice_get-map, slice_get_within}
@@ -8,7 +8,6 @@ use Rattle.std.specs.Str.{bytes_eq}
 use Rattle.sc_base.specs.declared.memory.NoMemory.{NoMemory}
 use Rattle.sc_types.specs.Sends.{IsBeforeAll, IsInDueOrder, is_before}
 use Rattle.sc_types.specs.declared.command.Reply.TheVariants.{Ticked}
-use Rattle.sc_types.specs.declared.event.Data.TheVariants.{Absent}
 use Rattle.sc_types.specs.declared.event.Event.{Event}
 use Rattle.sc_types.specs.declared.history.Delivery.{Delivery}
 use Rattle.sc_types.specs.declared.history.Delivery.TheVariants.{Dropped, Nothing, Unreachable}
@@ -16,13 +15,11 @@ use Rattle.sc_types.specs.declared.host.HostImage.{HostImage}
 use Rattle.sc_types.specs.declared.host.InvokerImage.{InvokerImage}
 use Rattle.sc_types.specs.declared.host.SessionImage.{SessionImage}
 use Rattle.sc_types.specs.declared.host.TimerImage.{TimerImage}
-use Rattle.sc_types.specs.declared.host.To.{To}
-use Rattle.sc_law.specs.Runs.{platform_event}
 use Rattle.sc_core.specs.Aims.{Outline, aim, carried, invokeid_for, outline, outlines, received}
 use Rattle.sc_core.specs.Bodies.{image, session_image}
-use Rattle.sc_core.specs.Changes.{IsFirstDue, fire_first, lose, put_state, queue_at, tell, with_invokeid}
+use Rattle.sc_core.specs.Changes.{IsFirstDue, fire_first, lose, put_state, tell, with_invokeid}
 use Rattle.sc_core.specs.Commands.{advance}
-use Rattle.sc_core.specs.Deliveries.{Delivered, arriving, fire, fire_all, hears, is_cut_from, is_due, left_as, queue, receiver_name, send_found, send_named, send_now, unreachable, while_live}
+use Rattle.sc_core.specs.Deliveries.{Delivered, fire, fire_all, hears, is_cut_from, is_due, left_as, queue, receiver_name, send_found, send_named, send_now, unreachable, while_live}
 use Rattle.sc_core.specs.Hosts.{is_running, session_named, session_place, with_session}
 use Rattle.sc_core.specs.HostStates.{ArePlanned}
 use Rattle.sc_core.specs.Installing.{CanApplyAll, HaveTargets, installed}
@@ -31,8 +28,7 @@ use Rattle.sc_core.specs.Ticking.{Adds, Fired, fired, fired_at, fired_by, fired_
 use Rattle.sc_core.specs.declared.aims.Aim.{Aim}
 use Rattle.sc_core.specs.declared.aims.Aim.TheVariants.{Reaches, Fails, Drops}
 use Rattle.sc_core.specs.declared.body.Body.{Body}
-use Rattle.sc_core.specs.declared.change.Change.{Change}
-use Rattle.sc_core.specs.declared.change.Change.TheVariants.{Advance, Count, Fire, Lose, Tell}
+use Rattle.sc_core.specs.declared.change.Change.TheVariants.{Count, Lose, Tell}
 use Rattle.sc_core.specs.declared.prepared.Prepared.{Prepared}
 use Rattle.sc_core.specs.declared.session.Session.{Session}
 use Rattle.sc_core.specs.declared.ticks.Draft.{Draft}
