@@ -1,5 +1,5 @@
 -- Where an event goes that a session sends, and that deliveries change nothing of that.
-use Rattle.std.proofs.Common.{◌≡◌, ℕ, ◌+◌, ◌-◌, ◌^◌, ◌==◌, ◌&&◌, zero, suc, nat_lt, Bool, true, false, Option, Some, None, option_map, option_and_then, if◌then◌else◌, List, [], ◌∷◌, map, position, slice_get, slice_set, refl, arith, sym, ap, ◌∙◌}
+use Rattle.std.proofs.Common.{◌≡◌, ℕ, ◌+◌, ◌-◌, ◌^◌, ◌==◌, ◌&&◌, zero, suc, nat_lt, Bool, true, false, Option, Some, None, option_map, option_and_then, if◌then◌else◌, List, [], ◌∷◌, position, slice_get, slice_set, refl, arith, sym, ap, ◌∙◌}
 use Rattle.std.proofs.Math.Seq.{map-set_same}
 use Rattle.std.proofs.lemmas.Bool.Decides.{nat_tests}
 use Rattle.std.proofs.lemmas.Option.{get_or_from_slice_get, slice_get-map}
@@ -20,7 +20,7 @@ use Rattle.sc_types.specs.declared.session.Phase.{Phase}
 use Rattle.sc_types.specs.declared.session.SessionState.{SessionState}
 use Rattle.sc_core.specs.Aims.{Outline, aim, aim_found, aim_named, carried, invokeid_for, outline, outlines, received}
 use Rattle.sc_core.specs.Changes.{at_session, put_state, queue_at, tell, with_invokeid}
-use Rattle.sc_core.specs.Deliveries.{Delivered, arriving, deliver, deliver_of, delay_send, due_time, fire, hears, is_cut_from, left_as, next_send, queue, receiver_name, send_found, send_named, send_now, undo, unreachable, while_live}
+use Rattle.sc_core.specs.Deliveries.{Delivered, arriving, deliver, deliver_of, delay_send, due_time, fire, hears, is_cut_from, left_as, next_send, queue, receiver_name, send_found, send_named, send_now, unreachable, while_live}
 use Rattle.sc_core.specs.Hosts.{is_live, is_running, is_session_named, session_named, session_place, with_session}
 use Rattle.sc_core.specs.declared.aims.Aim.{Aim}
 use Rattle.sc_core.specs.declared.aims.Aim.TheVariants.{Reaches, Fails, Drops}
@@ -44,7 +44,8 @@ found_is_sent g place s name e (Some (p, r)) found = by (is_live r.state.phase)
     by false = refl
     by true =
         let at = is_at g name p r found in
-        sym (ap (λ o. option_map_or (received g p s e) o (left_as g Nothing)) at.there ∙ ap (queued_by g p r s e) at.named)
+        sym (ap (λ o. option_map_or (received g p s e) o (left_as g Nothing)) at.there
+        ∙ ap (queued_by g p r s e) at.named)
 
 named_is_sent : (g : HostImage) (place : ℕ) (s : SessionImage) (e : Event) (o : Option (List ℕ))
     → send_named g place s e o ≡ carried g place s e (aim_named g s o)
@@ -67,8 +68,10 @@ pub arrives : (s : SessionImage) (name : List ℕ) (e : Event)
     → with_invokeid e (invokeid_for s.invoker name) ≡ arriving s name e
 arrives s name e = by s.invoker
   where
-    by : (o : Option InvokerImage) → with_invokeid e (invokeid_for o name)
-        ≡ option_map_or (λ (i : InvokerImage). if bytes_eq i.session name then record e { invokeid = i.invokeid } else e) o e
+    borne : InvokerImage → Event
+    borne i = if bytes_eq i.session name then record e { invokeid = i.invokeid } else e
+
+    by : (o : Option InvokerImage) → with_invokeid e (invokeid_for o name) ≡ option_map_or borne o e
     by None = refl
     by (Some i) = same (bytes_eq i.session name)
       where
@@ -113,11 +116,13 @@ aim_outlined g name =
     at p None = refl
     at p (Some s) = live_found (is_live s.state.phase) (p, s)
 
-    by : (o : Option ℕ) → aim_found (while_live (found_in g.sessions o)) ≡ option_map_or (outlined_at (outlines g)) o Fails
+    by : (o : Option ℕ)
+        → aim_found (while_live (found_in g.sessions o)) ≡ option_map_or (outlined_at (outlines g)) o Fails
     by None = refl
     by (Some p) =
         at p (slice_get g.sessions p)
-        ∙ sym (ap (λ o. option_map_or (λ (x : Outline). reached_in x.phase p) o Fails) (slice_get-map outline g.sessions p))
+        ∙ sym (ap (λ o. option_map_or (λ (x : Outline). reached_in x.phase p) o Fails)
+        (slice_get-map outline g.sessions p))
 
 -- the name of a receiver is seen in the sender's outline
 abbrev pub named_in : Outline → To → Option (List ℕ)
@@ -166,7 +171,8 @@ same_aim h g t s who all one =
 pub outlines_set : (g : HostImage) (place : ℕ) (s t : SessionImage) → slice_get g.sessions place ≡ Some s
     → outline t ≡ outline s → outlines (with_session g place t) ≡ outlines g
 outlines_set g place s t there same =
-    map-set_same outline g.sessions place t s (same ∙ ap outline (sym (get_or_from_slice_get g.sessions place s s there)))
+    map-set_same outline g.sessions place t s
+    (same ∙ ap outline (sym (get_or_from_slice_get g.sessions place s s there)))
 
 -- an event joins an external queue
 pub outlines_queue : (g : HostImage) (place : ℕ) (s : SessionImage) (e : Event) → slice_get g.sessions place ≡ Some s
@@ -238,7 +244,8 @@ outlines_effect : (g : HostImage) (place : ℕ) (s : SessionImage) (effect : Eff
     → outlines (deliver_of g place s effect).host ≡ outlines g
 outlines_effect g place s (Send e who delay) there = by (delay == 0)
   where
-    by : (now : Bool) → outlines (if now then send_now g place s who e else delay_send g s who e delay).host ≡ outlines g
+    by : (now : Bool)
+        → outlines (if now then send_now g place s who e else delay_send g s who e delay).host ≡ outlines g
     by true = outlines_sent g place s who e there
     by false = outlines_delay g s who e delay
 outlines_effect g place s (CancelSend []) there = refl
@@ -248,12 +255,14 @@ outlines_effect g place s (CancelChild child) there = refl
 outlines_effect g place s (Forward child e) there = refl
 
 -- an effect is carried out
-pub outlines_deliver : (g : HostImage) (place : ℕ) (effect : Effect) → outlines (deliver g place effect).host ≡ outlines g
+pub outlines_deliver : (g : HostImage) (place : ℕ) (effect : Effect)
+    → outlines (deliver g place effect).host ≡ outlines g
 unfolding deliver
 outlines_deliver g place effect = by (slice_get g.sessions place) refl
   where
     by : (o : Option SessionImage) → slice_get g.sessions place ≡ o
-        → outlines (option_map_or (λ (s : SessionImage). deliver_of g place s effect) o (left_as g Nothing)).host ≡ outlines g
+        → outlines (option_map_or (λ (s : SessionImage). deliver_of g place s effect) o (left_as g Nothing)).host
+        ≡ outlines g
     by None at = refl
     by (Some s) at = outlines_effect g place s effect at
 
@@ -262,9 +271,11 @@ pub outlines_fire : (g : HostImage) (t : TimerImage) → outlines (fire g t).hos
 unfolding fire
 outlines_fire g t = by (session_named g t.session) refl
   where
+    sent : ℕ × SessionImage → Delivered
+    sent found = send_now g found.0 found.1 t.to t.event
+
     by : (o : Option (ℕ × SessionImage)) → session_named g t.session ≡ o
-        → outlines (option_map_or (λ (found : ℕ × SessionImage). send_now g found.0 found.1 t.to t.event) o (left_as g Dropped)).host
-        ≡ outlines g
+        → outlines (option_map_or sent o (left_as g Dropped)).host ≡ outlines g
     by None at = refl
     by (Some (place, s)) at = outlines_sent g place s t.to t.event (is_at g t.session place s at).there
 
@@ -275,7 +286,8 @@ set_here [] i x y there = absurd cc
 set_here (z ∷ zs) zero x y there = refl
 set_here (z ∷ zs) (suc i) x y there = set_here zs i x y there
 
-set_other : {X : Type 0} (xs : List X) (i j : ℕ) (y : X) → (j ≡ i → ⊥) → slice_get (slice_set xs i y) j ≡ slice_get xs j
+set_other : {X : Type 0} (xs : List X) (i j : ℕ) (y : X) → (j ≡ i → ⊥)
+    → slice_get (slice_set xs i y) j ≡ slice_get xs j
 set_other [] i j y differ = refl
 set_other (x ∷ xs) zero zero y differ = absurd (differ refl)
 set_other (x ∷ xs) zero (suc j) y differ = refl
@@ -287,29 +299,30 @@ abbrev pub aim_seen : ℕ → Phase → Option (ℕ × SessionImage) → Aim
 aim_seen place phase None = Fails
 aim_seen place phase (Some found) = reached_in (if found.0 == place then phase else found.1.state.phase) found.0
 
+-- a session with its place
+abbrev at_place : ℕ → Option SessionImage → Option (ℕ × SessionImage)
+at_place p o = option_map {U = ℕ × SessionImage} (λ (s : SessionImage). (p, s)) o
+
 seen_here : (xs : List SessionImage) (place p : ℕ) (x y : SessionImage) → slice_get xs place ≡ Some x
     → (p == place) ≡ true
     → aim_found (while_live (placed_in (slice_set xs place y) p)) ≡ aim_seen place y.state.phase (placed_in xs p)
 seen_here xs place p x y there same =
+    let ys = slice_set xs place y in
     let is : place ≡ p = grind (arith, nat_tests, same) in
-    let new : slice_get (slice_set xs place y) p ≡ Some y = ap (slice_get (slice_set xs place y)) (sym is) ∙ set_here xs place x y there in
+    let new : slice_get ys p ≡ Some y = ap (slice_get ys) (sym is) ∙ set_here xs place x y there in
     let old : slice_get xs p ≡ Some x = ap (slice_get xs) (sym is) ∙ there in
-    ap (λ o. aim_found (while_live (option_map {U = ℕ × SessionImage} (λ (s : SessionImage). (p, s)) o))) new
-    ∙ live_found (is_live y.state.phase) (p, y)
+    ap (λ o. aim_found (while_live (at_place p o))) new ∙ live_found (is_live y.state.phase) (p, y)
     ∙ sym (ap (λ b. reached_in (if b then y.state.phase else x.state.phase) p) same)
-    ∙ sym (ap (λ o. aim_seen place y.state.phase (option_map {U = ℕ × SessionImage} (λ (s : SessionImage). (p, s)) o)) old)
+    ∙ sym (ap (λ o. aim_seen place y.state.phase (at_place p o)) old)
 
 seen_there : (xs : List SessionImage) (place p : ℕ) (y : SessionImage) → (p == place) ≡ false
     → aim_found (while_live (placed_in (slice_set xs place y) p)) ≡ aim_seen place y.state.phase (placed_in xs p)
 seen_there xs place p y other =
     let differ : p ≡ place → ⊥ = λ same. grind (arith, nat_tests, other, same) in
-    ap (λ o. aim_found (while_live (option_map {U = ℕ × SessionImage} (λ (s : SessionImage). (p, s)) o)))
-    (set_other xs place p y differ)
-    ∙ by (slice_get xs p)
+    ap (λ o. aim_found (while_live (at_place p o))) (set_other xs place p y differ) ∙ by (slice_get xs p)
   where
     by : (o : Option SessionImage)
-        → aim_found (while_live (option_map {U = ℕ × SessionImage} (λ (s : SessionImage). (p, s)) o))
-        ≡ aim_seen place y.state.phase (option_map {U = ℕ × SessionImage} (λ (s : SessionImage). (p, s)) o)
+        → aim_found (while_live (at_place p o)) ≡ aim_seen place y.state.phase (at_place p o)
     by None = refl
     by (Some r) =
         live_found (is_live r.state.phase) (p, r)
@@ -352,6 +365,9 @@ pub aim_put : (g : HostImage) (place : ℕ) (state : SessionState) (name : List 
     ≡ aim_seen place state.phase (session_named g name)
 aim_put g place state name there = by (slice_get g.sessions place) refl there
   where
+    put : SessionImage → HostImage
+    put s = with_session g place (record s { state = state })
+
     by : (o : Option SessionImage) → slice_get g.sessions place ≡ o
         → option_map (λ (s : SessionImage). s.state.session) o ≡ Some state.session
         → aim_found (while_live (session_named (put_state g place state) name))
@@ -359,11 +375,12 @@ aim_put g place state name there = by (slice_get g.sessions place) refl there
     by None at is = absurd cc
     by (Some x) at is =
         let named : x.state.session ≡ state.session = cc in
-        ap (λ o. aim_found (while_live (session_named (option_map_or (λ (s : SessionImage). with_session g place (record s { state = state })) o g) name))) at
+        ap (λ o. aim_found (while_live (session_named (option_map_or put o g) name))) at
         ∙ aim_set g place x (record x { state = state }) name at (sym named)
 
 -- the session that was found is reached where it takes events
-pub aim_put_found : (g : HostImage) (place : ℕ) (state : SessionState) (name : List ℕ) (found : ℕ × SessionImage) (takes : Bool)
+pub aim_put_found : (g : HostImage) (place : ℕ) (state : SessionState) (name : List ℕ) (found : ℕ × SessionImage)
+    (takes : Bool)
     → option_map (λ (s : SessionImage). s.state.session) (slice_get g.sessions place) ≡ Some state.session
     → Some found ≡ session_named g name
     → takes ≡ is_live (if found.0 == place then state.phase else found.1.state.phase)
@@ -377,5 +394,7 @@ pub outlines_put : (g : HostImage) (place : ℕ) (s : SessionImage) (state : Ses
     → slice_get g.sessions place ≡ Some s → outline (record s { state = state }) ≡ outline s
     → outlines (put_state g place state) ≡ outlines g
 outlines_put g place s state there same =
-    ap (λ o. outlines (option_map_or (λ (x : SessionImage). with_session g place (record x { state = state })) o g)) there
-    ∙ outlines_set g place s (record s { state = state }) there same
+    ap (λ o. outlines (option_map_or put o g)) there ∙ outlines_set g place s (record s { state = state }) there same
+  where
+    put : SessionImage → HostImage
+    put x = with_session g place (record x { state = state })

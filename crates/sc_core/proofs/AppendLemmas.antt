@@ -8,7 +8,8 @@ use Rattle.sc_core.specs.declared.change.Change.{Change}
 use Rattle.sc_core.specs.declared.change.Change.TheVariants.{Count, Advance, Install, Start, PutState, TakeFront, Queue, Tell, Flag, End, Delay, Undo, Fire, Lose}
 
 -- they are made of the host machine that the others leave
-pub installed_more : {P : Type 0} (cs ds : List (Change P)) (g : HostImage) → installed (cs ++ ds) g ≡ installed ds (installed cs g)
+pub installed_more : {P : Type 0} (cs ds : List (Change P)) (g : HostImage)
+    → installed (cs ++ ds) g ≡ installed ds (installed cs g)
 installed_more [] ds g = refl
 installed_more (c ∷ cs) ds g = installed_more cs ds (apply c g)
 
@@ -19,7 +20,8 @@ can_more [] ds g before after = after
 can_more (c ∷ cs) ds g before after = (before.0, can_more cs ds (apply c g) before.1 after)
 
 -- their targets are there
-pub targets_more : {P : Type 0} (cs ds : List (Change P)) (n : ℕ) → HaveTargets n cs → HaveTargets n ds → HaveTargets n (cs ++ ds)
+pub targets_more : {P : Type 0} (cs ds : List (Change P)) (n : ℕ) → HaveTargets n cs → HaveTargets n ds
+    → HaveTargets n (cs ++ ds)
 targets_more [] ds n before after = after
 targets_more (c ∷ cs) ds n before after = (before.0, targets_more cs ds n before.1 after)
 

@@ -1,5 +1,5 @@
 -- What is drafted of the sends that come due is what they do.
-use Rattle.std.proofs.Common.{IfOk, Result, Ok, Err, append-nil, ◌≡◌, ℕ, ◌+◌, ◌^◌, ◌<◌, ◌≤◌, ◌||◌, ◌&&◌, ◌==◌, nat_le, nat_lt, zero, suc, Bool, true, false, not, filter, cond, Option, Some, None, option_map, option_and_then, if◌then◌else◌, List, [], ◌∷◌, ◌++◌, codes, drop, length, map, position, slice_get, refl, arith, sym, ap, subst, ◌∙◌}
+use Rattle.std.proofs.Common.{IfOk, Result, Ok, Err, append-nil, ◌≡◌, ℕ, ◌+◌, ◌^◌, ◌<◌, ◌≤◌, nat_le, zero, suc, Bool, true, false, not, filter, cond, Option, Some, None, option_map, option_and_then, if◌then◌else◌, List, [], ◌∷◌, ◌++◌, drop, length, position, slice_get, refl, arith, sym, ap, subst, ◌∙◌}
 use Rattle.std.proofs.lemmas.Bool.Decides.{nat_tests}
 use Rattle.std.proofs.lemmas.List.{length-append, length-map, append_assoc}
 use Rattle.std.proofs.lemmas.Option.{slice_get-map, slice_get_within}
@@ -8,30 +8,27 @@ use Rattle.std.specs.Str.{bytes_eq}
 use Rattle.sc_base.specs.declared.memory.NoMemory.{NoMemory}
 use Rattle.sc_types.specs.Sends.{IsBeforeAll, IsInDueOrder, is_before}
 use Rattle.sc_types.specs.declared.command.Reply.TheVariants.{Ticked}
-use Rattle.sc_types.specs.declared.event.Data.TheVariants.{Absent}
 use Rattle.sc_types.specs.declared.event.Event.{Event}
 use Rattle.sc_types.specs.declared.history.Delivery.{Delivery}
 use Rattle.sc_types.specs.declared.history.Delivery.TheVariants.{Dropped, Nothing, Unreachable}
 use Rattle.sc_types.specs.declared.host.HostImage.{HostImage}
+use Rattle.sc_types.specs.declared.host.InvokerImage.{InvokerImage}
 use Rattle.sc_types.specs.declared.host.SessionImage.{SessionImage}
 use Rattle.sc_types.specs.declared.host.TimerImage.{TimerImage}
-use Rattle.sc_types.specs.declared.host.To.{To}
-use Rattle.sc_law.specs.Runs.{platform_event}
 use Rattle.sc_core.specs.Aims.{Outline, aim, carried, invokeid_for, outline, outlines, received}
 use Rattle.sc_core.specs.Bodies.{image, session_image}
-use Rattle.sc_core.specs.Changes.{IsFirstDue, fire_first, lose, put_state, queue_at, tell, with_invokeid}
+use Rattle.sc_core.specs.Changes.{IsFirstDue, fire_first, lose, put_state, tell, with_invokeid}
 use Rattle.sc_core.specs.Commands.{advance}
-use Rattle.sc_core.specs.Deliveries.{Delivered, arriving, fire, fire_all, hears, is_cut_from, is_due, left_as, queue, receiver_name, send_found, send_named, send_now, unreachable, while_live}
+use Rattle.sc_core.specs.Deliveries.{Delivered, fire, fire_all, hears, is_cut_from, is_due, left_as, queue, receiver_name, send_found, send_named, send_now, unreachable, while_live}
 use Rattle.sc_core.specs.Hosts.{is_running, session_named, session_place, with_session}
 use Rattle.sc_core.specs.HostStates.{ArePlanned}
 use Rattle.sc_core.specs.Installing.{CanApplyAll, HaveTargets, installed}
 use Rattle.sc_core.specs.Preparing.{InstallNone, Prepares}
-use Rattle.sc_core.specs.Ticking.{Adds, Fired, fired, fired_at, fired_by, fired_failed, fired_lost}
+use Rattle.sc_core.specs.Ticking.{Adds, Fired, fired, fired_at, fired_by, fired_failed, fired_from, fired_lost, fired_to, failure_of}
 use Rattle.sc_core.specs.declared.aims.Aim.{Aim}
 use Rattle.sc_core.specs.declared.aims.Aim.TheVariants.{Reaches, Fails, Drops}
 use Rattle.sc_core.specs.declared.body.Body.{Body}
-use Rattle.sc_core.specs.declared.change.Change.{Change}
-use Rattle.sc_core.specs.declared.change.Change.TheVariants.{Advance, Count, Fire, Lose, Tell}
+use Rattle.sc_core.specs.declared.change.Change.TheVariants.{Count, Lose, Tell}
 use Rattle.sc_core.specs.declared.prepared.Prepared.{Prepared}
 use Rattle.sc_core.specs.declared.session.Session.{Session}
 use Rattle.sc_core.specs.declared.ticks.Draft.{Draft}
@@ -57,6 +54,11 @@ pub record IsFired {P : Type 0} (h : HostImage) (f : Fired P) (d : Delivered) : 
 abbrev with_left : HostImage → List TimerImage → HostImage
 with_left h ts = record h { timers = ts }
 
+-- it is sent by the session that was found, where there is one
+abbrev sent_from : HostImage → TimerImage → Option (ℕ × SessionImage) → Delivered
+sent_from h t o =
+    option_map_or (λ (found : ℕ × SessionImage). send_now h found.0 found.1 t.to t.event) o (left_as h Dropped)
+
 lost_is : (h : HostImage) (t : TimerImage) (ts : List TimerImage) → h.timers ≡ t ∷ ts → lose h ≡ with_left h ts
 lost_is h t ts first = ap (λ xs. with_left h (drop 1 xs)) first
 
@@ -71,10 +73,6 @@ lost_fired h t ts what first = record {
   plain = λ chart_of. tt;
 }
 
--- what a sender hears
-abbrev error_of : List ℕ → Event
-error_of sendid = platform_event (codes "error.communication") sendid Absent
-
 failed_fired : {P : Type 0} (h : HostImage) (t : TimerImage) (ts : List TimerImage) (place : ℕ) (s : SessionImage)
     → h.timers ≡ t ∷ ts → slice_get h.sessions place ≡ Some s
     → IsFired {P = P} h (fired_failed h.events place s.state.phase t.event.sendid)
@@ -86,7 +84,7 @@ failed_fired {P = P} h t ts place s first there = by (is_running s.state.phase)
 
     made : Bool → Fired P
     made b = record {
-      changes = Lose ∷ (if b then Tell place (error_of id) ∷ [] else []);
+      changes = Lose ∷ (if b then Tell place (failure_of id) ∷ [] else []);
       what = Unreachable;
       events = h.events;
     }
@@ -96,6 +94,9 @@ failed_fired {P = P} h t ts place s first there = by (is_running s.state.phase)
       host = if b then with_session (with_left h ts) place (hears s id) else with_left h ts;
       what = Unreachable;
     }
+
+    heard : SessionImage → HostImage
+    heard x = with_session (with_left h ts) place (hears x id)
 
     within : place < length h.sessions
     within = slice_get_within h.sessions place s there
@@ -110,8 +111,8 @@ failed_fired {P = P} h t ts place s first there = by (is_running s.state.phase)
       plain = λ chart_of. tt;
     }
     by true = record {
-      host = ap (λ (g : HostImage). tell g place (error_of id)) (lost_is h t ts first)
-          ∙ ap (λ o. option_map_or (λ (x : SessionImage). with_session (with_left h ts) place (hears x id)) o (with_left h ts)) there;
+      host = ap (λ (g : HostImage). tell g place (failure_of id)) (lost_is h t ts first)
+          ∙ ap (λ o. option_map_or heard o (with_left h ts)) there;
       what = refl;
       events = refl;
       can = λ due less. (due, (within, tt));
@@ -139,8 +140,8 @@ reached_fired h t ts s to r first there =
     }
 
 -- a send of the session at a place, by its aim
-aimed_fired : {P : Type 0} (h : HostImage) (t : TimerImage) (ts : List TimerImage) (place : ℕ) (s : SessionImage) (a : Aim)
-    → h.timers ≡ t ∷ ts → slice_get h.sessions place ≡ Some s
+aimed_fired : {P : Type 0} (h : HostImage) (t : TimerImage) (ts : List TimerImage) (place : ℕ) (s : SessionImage)
+    (a : Aim) → h.timers ≡ t ∷ ts → slice_get h.sessions place ≡ Some s
     → IsFired {P = P} h (fired_by h h.events t place s a) (carried (with_left h ts) place s t.event a)
 aimed_fired h t ts place s Fails first there = failed_fired h t ts place s first there
 aimed_fired h t ts place s Drops first there = lost_fired h t ts Dropped first
@@ -148,7 +149,7 @@ aimed_fired {P = P} h t ts place s (Reaches to) first there = by (slice_get h.se
   where
     by : (o : Option SessionImage) → slice_get h.sessions to ≡ o
         → IsFired {P = P} h
-        (option_map_or (λ (r : SessionImage). fired_at h.events to s.invoker r.state.session) o (fired_lost h.events Nothing))
+        (fired_to h.events to s.invoker o)
         (option_map_or (received (with_left h ts) to s t.event) o (left_as (with_left h ts) Nothing))
     by None at = lost_fired h t ts Nothing first
     by (Some r) at = reached_fired h t ts s to r first at
@@ -172,8 +173,7 @@ is_fired {P = P} h t ts first = by (session_named h t.session) refl
   where
     by : (o : Option (ℕ × SessionImage)) → session_named h t.session ≡ o
         → IsFired {P = P} h
-        (option_map_or (λ (found : ℕ × SessionImage). fired_by h h.events t found.0 found.1 (aim h found.1 t.to)) o (fired_lost h.events Dropped))
-        (option_map_or (λ (found : ℕ × SessionImage). send_now (with_left h ts) found.0 found.1 t.to t.event) o (left_as (with_left h ts) Dropped))
+        (fired_from h h.events t o) (sent_from (with_left h ts) t o)
     by None at = lost_fired h t ts Dropped first
     by (Some (place, s)) at = sent_fired h t ts place s first (is_at h t.session place s at).there
 
@@ -190,9 +190,13 @@ outlined_pair found = (found.0, outline found.1)
 found_outlined : (g : HostImage) (name : List ℕ)
     → outline_named (outlines g) name ≡ option_map outlined_pair (session_named g name)
 found_outlined g name =
-    ap (λ o. option_and_then {U = ℕ × Outline} placed o) (position_map (λ (o : Outline). bytes_eq o.name name) outline g.sessions)
+    ap (λ o. option_and_then {U = ℕ × Outline} placed o)
+    (position_map (λ (o : Outline). bytes_eq o.name name) outline g.sessions)
     ∙ by (session_place g name)
   where
+    found : ℕ → Option (ℕ × SessionImage)
+    found p = option_map {U = ℕ × SessionImage} (λ (s : SessionImage). (p, s)) (slice_get g.sessions p)
+
     placed : ℕ → Option (ℕ × Outline)
     placed p = option_map {U = ℕ × Outline} (λ (o : Outline). (p, o)) (slice_get (outlines g) p)
 
@@ -203,44 +207,44 @@ found_outlined g name =
     at p (Some s) = refl
 
     by : (o : Option ℕ) → option_and_then {U = ℕ × Outline} placed o
-        ≡ option_map outlined_pair (option_and_then {U = ℕ × SessionImage} (λ p. option_map {U = ℕ × SessionImage} (λ (s : SessionImage). (p, s)) (slice_get g.sessions p)) o)
+        ≡ option_map outlined_pair (option_and_then {U = ℕ × SessionImage} found o)
     by None = refl
     by (Some p) =
         ap (λ o. option_map {U = ℕ × Outline} (λ (x : Outline). (p, x)) o) (slice_get-map outline g.sessions p)
         ∙ at p (slice_get g.sessions p)
 
+abbrev outlined_to : {P : Type 0} → ℕ → ℕ → Option InvokerImage → Option Outline → Fired P
+outlined_to n place invoker None = fired_lost n Nothing
+outlined_to n place invoker (Some receiver) = fired_at n place invoker receiver.name
+
 abbrev outlined_by : {P : Type 0} → List Outline → ℕ → TimerImage → ℕ → Outline → Aim → Fired P
-outlined_by os n t place o (Reaches to) =
-    option_map_or (λ (r : Outline). fired_at n to o.invoker r.name) (slice_get os to) (fired_lost n Nothing)
+outlined_by os n t place o (Reaches to) = outlined_to n to o.invoker (slice_get os to)
 outlined_by os n t place o Fails = fired_failed n place o.phase t.event.sendid
 outlined_by os n t place o Drops = fired_lost n Dropped
 
 abbrev outlined_fired : {P : Type 0} → List Outline → ℕ → TimerImage → Option (ℕ × Outline) → Fired P
-outlined_fired os n t found =
-    option_map_or (λ (f : ℕ × Outline). outlined_by os n t f.0 f.1 (aim_in os f.1 (named_in f.1 t.to))) found (fired_lost n Dropped)
+outlined_fired os n t None = fired_lost n Dropped
+outlined_fired os n t (Some found) = outlined_by os n t found.0 found.1 (aim_in os found.1 (named_in found.1 t.to))
 
 by_outlined : {P : Type 0} (g : HostImage) (n : ℕ) (t : TimerImage) (place : ℕ) (s : SessionImage) (a : Aim)
     → fired_by {P = P} g n t place s a ≡ outlined_by (outlines g) n t place (outline s) a
 by_outlined g n t place s Fails = refl
 by_outlined g n t place s Drops = refl
 by_outlined {P = P} g n t place s (Reaches to) =
-    by (slice_get g.sessions to)
-    ∙ sym (ap (λ o. option_map_or (λ (r : Outline). fired_at n to s.invoker r.name) o (fired_lost n Nothing)) (slice_get-map outline g.sessions to))
+    by (slice_get g.sessions to) ∙ sym (ap (outlined_to {P = P} n to s.invoker) (slice_get-map outline g.sessions to))
   where
     by : (o : Option SessionImage)
-        → option_map_or (λ (r : SessionImage). fired_at {P = P} n to s.invoker r.state.session) o (fired_lost n Nothing)
-        ≡ option_map_or (λ (r : Outline). fired_at n to s.invoker r.name) (option_map outline o) (fired_lost n Nothing)
+        → fired_to {P = P} n to s.invoker o ≡ outlined_to n to s.invoker (option_map outline o)
     by None = refl
     by (Some r) = refl
 
 fired_outlined : {P : Type 0} (g : HostImage) (n : ℕ) (t : TimerImage)
     → fired {P = P} g n t ≡ outlined_fired (outlines g) n t (outline_named (outlines g) t.session)
 fired_outlined {P = P} g n t =
-    by (session_named g t.session) ∙ sym (ap (outlined_fired (outlines g) n t) (found_outlined g t.session))
+    by (session_named g t.session) ∙ sym (ap (outlined_fired {P = P} (outlines g) n t) (found_outlined g t.session))
   where
     by : (o : Option (ℕ × SessionImage))
-        → option_map_or (λ (found : ℕ × SessionImage). fired_by {P = P} g n t found.0 found.1 (aim g found.1 t.to)) o (fired_lost n Dropped)
-        ≡ outlined_fired (outlines g) n t (option_map outlined_pair o)
+        → fired_from {P = P} g n t o ≡ outlined_fired (outlines g) n t (option_map outlined_pair o)
     by None = refl
     by (Some (place, s)) =
         by_outlined g n t place s (aim g s t.to)
@@ -250,7 +254,8 @@ fired_outlined {P = P} g n t =
 pub same_fired : {P : Type 0} (h g : HostImage) (n : ℕ) (t : TimerImage) → outlines h ≡ outlines g
     → fired {P = P} h n t ≡ fired g n t
 same_fired h g n t same =
-    fired_outlined h n t ∙ ap (λ os. outlined_fired os n t (outline_named os t.session)) same ∙ sym (fired_outlined g n t)
+    fired_outlined h n t ∙ ap (λ os. outlined_fired os n t (outline_named os t.session)) same
+    ∙ sym (fired_outlined g n t)
 
 -- ---- a send that comes due looks at no clock, no count of commands and no pending sends
 
@@ -277,30 +282,33 @@ named_beside : (x g : HostImage) (place : ℕ) (s : SessionImage) (e : Event) (o
 named_beside x g place s e None = unreachable_beside x g place s e
 named_beside x g place s e (Some name) = by (is_cut_from s name)
   where
+    receiver : Option (ℕ × SessionImage)
+    receiver = while_live (session_named g name)
+
     found : (o : Option (ℕ × SessionImage))
         → send_found (beside x g) place s name e o ≡ done_beside x (send_found g place s name e o)
     found None = unreachable_beside x g place s e
     found (Some f) = refl
 
     by : (cut : Bool)
-        → (if cut then left_as (beside x g) Dropped else send_found (beside x g) place s name e (while_live (session_named g name)))
-        ≡ done_beside x (if cut then left_as g Dropped else send_found g place s name e (while_live (session_named g name)))
+        → (if cut then left_as (beside x g) Dropped else send_found (beside x g) place s name e receiver)
+        ≡ done_beside x (if cut then left_as g Dropped else send_found g place s name e receiver)
     by true = refl
-    by false = found (while_live (session_named g name))
+    by false = found receiver
 
 fire_beside : (x g : HostImage) (t : TimerImage) → fire (beside x g) t ≡ done_beside x (fire g t)
 unfolding fire
 fire_beside x g t = by (session_named g t.session)
   where
     by : (o : Option (ℕ × SessionImage))
-        → option_map_or (λ (found : ℕ × SessionImage). send_now (beside x g) found.0 found.1 t.to t.event) o (left_as (beside x g) Dropped)
-        ≡ done_beside x (option_map_or (λ (found : ℕ × SessionImage). send_now g found.0 found.1 t.to t.event) o (left_as g Dropped))
+        → sent_from (beside x g) t o ≡ done_beside x (sent_from g t o)
     by None = refl
     by (Some (place, s)) = named_beside x g place s t.event (receiver_name s t.to)
 
 -- ---- the sends that are due are the first ones
 
-none_later : (now : ℕ) (t : TimerImage) (ts : List TimerImage) → IsBeforeAll t ts → now < t.due → filter (is_due now) ts ≡ []
+none_later : (now : ℕ) (t : TimerImage) (ts : List TimerImage) → IsBeforeAll t ts → now < t.due
+    → filter (is_due now) ts ≡ []
 none_later now t [] before late = refl
 none_later now t (s ∷ ss) before late =
     let not_due : nat_le s.due now ≡ false = later s before.0 in
@@ -321,7 +329,8 @@ none_due now zero t (s ∷ ss) order there late =
 none_due now (suc place) t (s ∷ ss) order there late = none_due now place t ss order.1 there late
 
 -- there is none past the last
-pub none_past : (now place : ℕ) (ts : List TimerImage) → slice_get ts place ≡ None → filter (is_due now) (drop place ts) ≡ []
+pub none_past : (now place : ℕ) (ts : List TimerImage) → slice_get ts place ≡ None
+    → filter (is_due now) (drop place ts) ≡ []
 none_past now zero [] past = refl
 none_past now (suc place) [] past = refl
 none_past now zero (t ∷ ts) past = absurd cc
@@ -355,23 +364,23 @@ fired_aimed {P = P} h n t place s a found at aims =
     let o = session_image s in
     let kept = outlines_put g place o s.state (image_at h.sessions.items place s at) refl in
     let same : aim g o t.to ≡ a = sym (aims ∙ same_aim (put_state g place s.state) g o o t.to kept refl) in
-    ap (λ (f : Option (ℕ × SessionImage)). option_map_or (λ (x : ℕ × SessionImage). fired_by {P = P} g n t x.0 x.1 (aim g x.1 t.to)) f (fired_lost n Dropped)) (sym found)
+    ap (fired_from {P = P} g n t) (sym found)
     ∙ ap (fired_by {P = P} g n t place o) same
 
 -- a send that reaches a session
-pub fired_reaches : {P : Type 0} (h : Body P) (n : ℕ) (t : TimerImage) (place : ℕ) (s : Session) (a : Aim) (to : ℕ) (name : List ℕ)
-    → Some (place, session_image s) ≡ session_named (image h) t.session → slice_get h.sessions.items place ≡ Some s
+pub fired_reaches : {P : Type 0} (h : Body P) (n : ℕ) (t : TimerImage) (place : ℕ) (s : Session) (a : Aim) (to : ℕ)
+    (name : List ℕ) → Some (place, session_image s) ≡ session_named (image h) t.session
+    → slice_get h.sessions.items place ≡ Some s
     → a ≡ aim (put_state (image h) place s.state) (session_image s) t.to → a ≡ Reaches to
     → option_map (λ (x : Session). x.state.session) (slice_get h.sessions.items to) ≡ Some name
     → fired {P = P} (image h) n t ≡ fired_at n to s.invoker name
 fired_reaches {P = P} h n t place s a to name found at aims is named =
     fired_aimed h n t place s a found at aims ∙ ap (fired_by {P = P} (image h) n t place (session_image s)) is
-    ∙ ap (λ (o : Option SessionImage). option_map_or (λ (r : SessionImage). fired_at {P = P} n to s.invoker r.state.session) o (fired_lost n Nothing)) (slice_get-map session_image h.sessions.items to)
+    ∙ ap (fired_to {P = P} n to s.invoker) (slice_get-map session_image h.sessions.items to)
     ∙ by (slice_get h.sessions.items to) named
   where
     by : (o : Option Session) → option_map (λ (x : Session). x.state.session) o ≡ Some name
-        → option_map_or (λ (r : SessionImage). fired_at {P = P} n to s.invoker r.state.session) (option_map session_image o) (fired_lost n Nothing)
-        ≡ fired_at n to s.invoker name
+        → fired_to {P = P} n to s.invoker (option_map session_image o) ≡ fired_at n to s.invoker name
     by None is = absurd cc
     by (Some r) is =
         let same : r.state.session ≡ name = cc in
@@ -399,6 +408,10 @@ drafted g d = installed d.changes g
 abbrev drafted_left : {P : Type 0} → HostImage → ℕ → Draft P → HostImage
 drafted_left g now d = with_left (drafted g d) (ticked g now).timers
 
+-- the sends that are not due
+abbrev undue : ℕ → List TimerImage → List TimerImage
+undue now ts = filter (λ t. not (is_due now t)) ts
+
 -- the sends that are still to be drafted
 abbrev pub due_later : {P : Type 0} → HostImage → ℕ → Draft P → List TimerImage
 due_later g now d = filter (is_due now) (drop (length d.sent) g.timers)
@@ -406,7 +419,8 @@ due_later g now d = filter (is_due now) (drop (length d.sent) g.timers)
 -- what is drafted, and then what is still due, makes the whole
 pub record Ticks {P : Type 0} (g : HostImage) (now : ℕ) (d : Draft P) : Type 0 where
   pub host : (fire_all (drafted_left g now d) (due_later g now d)).host ≡ (fire_all (ticked g now) (due_in g now)).host
-  pub sent : d.sent ++ (fire_all (drafted_left g now d) (due_later g now d)).sent ≡ (fire_all (ticked g now) (due_in g now)).sent
+  pub sent : d.sent ++ (fire_all (drafted_left g now d) (due_later g now d)).sent
+      ≡ (fire_all (ticked g now) (due_in g now)).sent
   pub count : length d.sent + length (due_later g now d) ≡ length (due_in g now)
   pub clock : (drafted g d).clock ≡ now
   pub commands : (drafted g d).commands ≡ g.commands
@@ -414,7 +428,7 @@ pub record Ticks {P : Type 0} (g : HostImage) (now : ℕ) (d : Draft P) : Type 0
   pub events : (drafted g d).events ≡ d.events
   pub numbers : d.events ≤ g.events + length d.sent
   pub outlines : outlines (drafted g d) ≡ outlines g
-  pub left : filter (λ t. not (is_due now t)) (drop (length d.sent) g.timers) ≡ (ticked g now).timers
+  pub left : undue now (drop (length d.sent) g.timers) ≡ (ticked g now).timers
   pub can : CanApplyAll g d.changes
   pub targets : HaveTargets (length g.sessions) d.changes
   pub plain : InstallNone d.changes
@@ -423,8 +437,7 @@ pub record Ticks {P : Type 0} (g : HostImage) (now : ℕ) (d : Draft P) : Type 0
 record IsNext {P : Type 0} (g : HostImage) (now : ℕ) (d e : Draft P) (t : TimerImage) : Type 0 where
   pub rest : drop (length d.sent) g.timers ≡ t ∷ drop (length e.sent) g.timers
   pub due : due_later g now d ≡ t ∷ due_later g now e
-  pub left : filter (λ s. not (is_due now s)) (drop (length d.sent) g.timers)
-      ≡ filter (λ s. not (is_due now s)) (drop (length e.sent) g.timers)
+  pub left : undue now (drop (length d.sent) g.timers) ≡ undue now (drop (length e.sent) g.timers)
 
 next_due : {P : Type 0} (g : HostImage) (now : ℕ) (d e : Draft P) (t : TimerImage)
     → slice_get g.timers (length d.sent) ≡ Some t → t.due ≤ now → length e.sent ≡ length d.sent + 1
@@ -434,12 +447,12 @@ next_due g now d e t there due more =
     let rest : drop (length d.sent) g.timers ≡ t ∷ drop (length e.sent) g.timers
     = rest_from g.timers (length d.sent) t there ∙ ap (λ n. t ∷ drop n g.timers) next in
     let is : nat_le t.due now ≡ true = grind (arith, nat_tests, due) in
+    let others = drop (length e.sent) g.timers in
     record {
       rest = rest;
       due = ap (filter (is_due now)) rest
           ∙ ap (λ b. cond b (t ∷ due_later g now e) (due_later g now e)) is;
-      left = ap (filter (λ s. not (is_due now s))) rest
-          ∙ ap (λ b. cond (not b) (t ∷ filter (λ s. not (is_due now s)) (drop (length e.sent) g.timers)) (filter (λ s. not (is_due now s)) (drop (length e.sent) g.timers))) is;
+      left = ap (undue now) rest ∙ ap (λ b. cond (not b) (t ∷ undue now others) (undue now others)) is;
     }
 
 -- one more send is drafted
@@ -540,15 +553,18 @@ tick_done {P = P} g now d p less so none changes replied logs sent =
           ∙ ap (λ (h : HostImage). record h { commands = h.commands + 1 }) all;
       reply = replied ∙ ap (λ n. Ticked n) count;
       logs = logs;
-      sent = sent ∙ sym (append-nil d.sent) ∙ sym (ap (λ ts. d.sent ++ (fire_all (drafted_left g now d) ts).sent) none) ∙ so.sent;
-      can = subst (CanApplyAll g) (sym changes) (can_more d.changes (Count ∷ []) g so.can (omega (arith, less, so.commands), tt));
+      sent = sent ∙ sym (append-nil d.sent)
+          ∙ sym (ap (λ ts. d.sent ++ (fire_all (drafted_left g now d) ts).sent) none) ∙ so.sent;
+      can = subst (CanApplyAll g) (sym changes)
+          (can_more d.changes (Count ∷ []) g so.can (omega (arith, less, so.commands), tt));
       targets = subst (HaveTargets (length g.sessions)) (sym changes)
           (targets_more d.changes (Count ∷ []) (length g.sessions) so.targets (tt, tt));
     }
   where
     all : drafted g d ≡ (fire_all (ticked g now) (due_in g now)).host
     all =
-        ap (λ ts. with_left (drafted g d) ts) (so.timers ∙ sym (all_left now (drop (length d.sent) g.timers) none) ∙ so.left)
+        ap (λ ts. with_left (drafted g d) ts)
+        (so.timers ∙ sym (all_left now (drop (length d.sent) g.timers) none) ∙ so.left)
         ∙ sym (ap (λ ts. (fire_all (drafted_left g now d) ts).host) none)
         ∙ so.host
 
@@ -559,14 +575,16 @@ tick_done {P = P} g now d p less so none changes replied logs sent =
 pub tick_plain : {P : Type 0} (g : HostImage) (now : ℕ) (d : Draft P) (p : Prepared P) → Ticks g now d
     → p.changes ≡ d.changes ++ Count ∷ [] → InstallNone p.changes
 tick_plain g now d p so changes =
-    λ chart_of. subst (ArePlanned chart_of) (sym changes) (planned_more chart_of d.changes (Count ∷ []) (so.plain chart_of) tt)
+    λ chart_of. subst (ArePlanned chart_of) (sym changes)
+    (planned_more chart_of d.changes (Count ∷ []) (so.plain chart_of) tt)
 
 -- the same where there was memory for it
 pub tick_ok : {P : Type 0} (g : HostImage) (now : ℕ) (d : Draft P) (r : Result (Prepared P) NoMemory)
     → g.commands + 1 < 2 ^ 64 → Ticks g now d → due_later g now d ≡ []
     → IfOk r (λ p. p.changes ≡ d.changes ++ Count ∷ []) → IfOk r (λ p. p.reply ≡ Ticked (length d.sent))
     → IfOk r (λ p. p.logs ≡ []) → IfOk r (λ p. p.sent ≡ d.sent) → IfOk r (Prepares (advance g now) g)
-tick_ok g now d (Ok p) less so none changes replied logs sent = tick_done g now d p less so none changes replied logs sent
+tick_ok g now d (Ok p) less so none changes replied logs sent =
+    tick_done g now d p less so none changes replied logs sent
 tick_ok g now d (Err e) less so none changes replied logs sent = tt
 
 pub plain_ok : {P : Type 0} (g : HostImage) (now : ℕ) (d : Draft P) (r : Result (Prepared P) NoMemory) → Ticks g now d

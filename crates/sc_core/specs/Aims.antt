@@ -1,5 +1,5 @@
--- Where an event goes that a session sends, told before anything changes. This host's own rule; only private clauses cite
--- these definitions.
+-- Where an event goes that a session sends, told before anything changes. This host's own rule; only private clauses
+-- cite these definitions.
 use Rattle.std.specs.Prelude.{ℕ, ◌+◌, ◌<◌, if◌then◌else◌, Option, Some, None, List, map, slice_get}
 use Rattle.std.specs.Option.{option_map_or}
 use Rattle.std.specs.Str.{bytes_eq}
@@ -47,7 +47,8 @@ carried g place s e (Reaches to) = option_map_or (received g to s e) (slice_get 
 carried g place s e Fails = unreachable g place s e
 carried g place s e Drops = left_as g Dropped
 
--- the id that an event bears which this invoker's session, if it is of this name, gets from the session that it invoked
+-- the id that an event bears which is sent to the session of this name: that of the invocation, where that session
+-- invoked the sender
 abbrev pub invokeid_for : Option InvokerImage → List ℕ → Option (List ℕ)
 invokeid_for None name = None
 invokeid_for (Some i) name = if bytes_eq i.session name then Some i.invokeid else None

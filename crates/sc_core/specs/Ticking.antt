@@ -1,8 +1,8 @@
--- What is drafted of a send that comes due, before anything changes. This host's own rule; only private clauses cite these
--- definitions.
-use Rattle.std.specs.Prelude.{ℕ, ◌≡◌, ◌+◌, if◌then◌else◌, Option, List, [], ◌∷◌, ◌++◌, codes, slice_get}
-use Rattle.std.specs.Option.{option_map_or}
+-- What is drafted of a send that comes due, before anything changes. This host's own rule; only private clauses cite
+-- these definitions.
+use Rattle.std.specs.Prelude.{ℕ, ◌≡◌, ◌+◌, if◌then◌else◌, Option, Some, None, List, [], ◌∷◌, ◌++◌, codes, slice_get}
 use Rattle.sc_types.specs.declared.event.Data.TheVariants.{Absent}
+use Rattle.sc_types.specs.declared.event.Event.{Event}
 use Rattle.sc_types.specs.declared.history.Delivery.{Delivery}
 use Rattle.sc_types.specs.declared.history.Delivery.TheVariants.{Dropped, Nothing, Queued, Unreachable}
 use Rattle.sc_types.specs.declared.host.HostImage.{HostImage}
@@ -29,10 +29,14 @@ pub record Fired (P : Type 0) : Type 0 where
 abbrev pub fired_lost : {P : Type 0} → ℕ → Delivery → Fired P
 fired_lost n what = record { changes = Lose ∷ []; what = what; events = n }
 
+-- what a sender hears of an event that reaches nobody, by the id of the send
+abbrev pub failure_of : List ℕ → Event
+failure_of sendid = platform_event (codes "error.communication") sendid Absent
+
 -- it reaches nobody, and the sender, which stands at a place, hears of it while it runs
 abbrev pub fired_failed : {P : Type 0} → ℕ → ℕ → Phase → List ℕ → Fired P
 fired_failed n place phase sendid = record {
-  changes = Lose ∷ (if is_running phase then Tell place (platform_event (codes "error.communication") sendid Absent) ∷ [] else []);
+  changes = Lose ∷ (if is_running phase then Tell place (failure_of sendid) ∷ [] else []);
   what = Unreachable;
   events = n;
 }
@@ -45,17 +49,23 @@ fired_at n place invoker name = record {
   events = n + 1;
 }
 
+abbrev pub fired_to : {P : Type 0} → ℕ → ℕ → Option InvokerImage → Option SessionImage → Fired P
+fired_to n place invoker None = fired_lost n Nothing
+fired_to n place invoker (Some receiver) = fired_at n place invoker receiver.state.session
+
 -- the sender is this session, which stands at a place
 abbrev pub fired_by : {P : Type 0} → HostImage → ℕ → TimerImage → ℕ → SessionImage → Aim → Fired P
-fired_by g n t place s (Reaches to) =
-    option_map_or (λ (r : SessionImage). fired_at n to s.invoker r.state.session) (slice_get g.sessions to) (fired_lost n Nothing)
+fired_by g n t place s (Reaches to) = fired_to n to s.invoker (slice_get g.sessions to)
 fired_by g n t place s Fails = fired_failed n place s.state.phase t.event.sendid
 fired_by g n t place s Drops = fired_lost n Dropped
 
+abbrev pub fired_from : {P : Type 0} → HostImage → ℕ → TimerImage → Option (ℕ × SessionImage) → Fired P
+fired_from g n t None = fired_lost n Dropped
+fired_from g n t (Some found) = fired_by g n t found.0 found.1 (aim g found.1 t.to)
+
 -- a send that comes due, when so many events have numbers
 abbrev pub fired : {P : Type 0} → HostImage → ℕ → TimerImage → Fired P
-fired g n t = option_map_or (λ (found : ℕ × SessionImage). fired_by g n t found.0 found.1 (aim g found.1 t.to))
-    (session_named g t.session) (fired_lost n Dropped)
+fired g n t = fired_from g n t (session_named g t.session)
 
 -- what a send makes is added to a draft
 pub record Adds {P : Type 0} (f : Fired P) (old new : Draft P) : Type 0 where

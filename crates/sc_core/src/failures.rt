@@ -1,5 +1,5 @@
 ghost use Rattle.std.specs.Prelude.{◌≡◌, IfOk, codes};
-ghost use Rattle.sc_law.specs.Runs.{platform_event};
+ghost use Rattle.sc_core.specs.Ticking.{failure_of};
 
 use sc_base::{Name, NoMemory, Plain, SmallBytes};
 use sc_types::{Data, Event, Kind};
@@ -16,7 +16,7 @@ fn error_name(alloc: Global) -> Result<Name, NoMemory>
 
 /// What a sender hears of an event that reaches nobody, by the id of the send.
 pub(crate) fn communication_error(alloc: Global, sendid: &SmallBytes) -> Result<Event, NoMemory>
-    ensures { IfOk result (λ e. e ≡ platform_event (codes "error.communication") sendid.now Data.Absent) }
+    ensures { IfOk result (λ e. e ≡ failure_of sendid.now) }
 {
     Ok(Event {
         number: 0,

@@ -12,11 +12,13 @@ returns-in_default-clause-aim g c =
 pub returns-then-not-takes_events-clause-aim : goal.returns-then-not-takes_events-clause-aim
 returns-then-not-takes_events-clause-aim g c =
     let a = c.args in
-    aim_put_found (image a.self.now) a.place a.state.now a.name.now (c.in-Some.found, session_image c.in-Some.session.now) false
-    c.requires.there c.in-Some.ensures.value c.if-not-takes_events.ensures
+    let s = session_image c.in-Some.session.now in
+    aim_put_found (image a.self.now) a.place a.state.now a.name.now (c.in-Some.found, s) false c.requires.there
+    c.in-Some.ensures.value c.if-not-takes_events.ensures
 
 pub returns-clause-aim : goal.returns-clause-aim
 returns-clause-aim g c =
     let a = c.args in
-    aim_put_found (image a.self.now) a.place a.state.now a.name.now (c.in-Some.found, session_image c.in-Some.session.now) true
-    c.requires.there c.in-Some.ensures.value c.if-not-takes_events.ensures
+    let s = session_image c.in-Some.session.now in
+    aim_put_found (image a.self.now) a.place a.state.now a.name.now (c.in-Some.found, s) true c.requires.there
+    c.in-Some.ensures.value c.if-not-takes_events.ensures

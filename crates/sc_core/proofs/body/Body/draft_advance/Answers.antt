@@ -23,4 +23,5 @@ returns-clause-prepares g c =
 
 pub returns-clause-plans : goal.returns-clause-plans
 returns-clause-plans g c =
-    plain_ok (image c.args.self.now) c.args.now c.loop-send.draft c.finish.result c.loop-send.invariant c.finish.ensures.changes
+    plain_ok (image c.args.self.now) c.args.now c.loop-send.draft c.finish.result c.loop-send.invariant
+    c.finish.ensures.changes

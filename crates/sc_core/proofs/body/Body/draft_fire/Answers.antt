@@ -7,15 +7,17 @@ use Rattle.sc_core.proofs.body.Body.draft_fire.Goals as goal
 pub returns-in-Reaches : goal.returns-in-Reaches
 returns-in-Reaches g c =
     let s = c.in-Some.sender.now in
+    let d = c.args.draft.now in
     on_ok c.reach.result _ _ c.reach.ensures
-    (adds_same _ _ c.args.draft.now c.reach.new.self (fired_reaches c.args.self.now c.args.draft.now.events c.args.send.now
-    c.in-Some.place s c.aim.result c.in-Reaches.to c.name_at.result.now c.in-Some.ensures.value c.in-Some.ensures.at
+    (adds_same _ _ d c.reach.new.self (fired_reaches c.args.self.now d.events c.args.send.now c.in-Some.place s
+    c.aim.result c.in-Reaches.to c.name_at.result.now c.in-Some.ensures.value c.in-Some.ensures.at
     (c.aim.ensures.aim (session_image s) refl refl) c.in-Reaches.is c.name_at.ensures))
 
 pub returns-in-Fails : goal.returns-in-Fails
 returns-in-Fails g c =
     let s = c.in-Some.sender.now in
+    let d = c.args.draft.now in
     on_ok c.fail.result _ _ c.fail.ensures
-    (adds_same _ _ c.args.draft.now c.fail.new.self (fired_fails c.args.self.now c.args.draft.now.events c.args.send.now
-    c.in-Some.place s c.aim.result c.in-Some.ensures.value c.in-Some.ensures.at
+    (adds_same _ _ d c.fail.new.self (fired_fails c.args.self.now d.events c.args.send.now c.in-Some.place s
+    c.aim.result c.in-Some.ensures.value c.in-Some.ensures.at
     (c.aim.ensures.aim (session_image s) refl refl) c.in-Fails.is))
