@@ -258,6 +258,11 @@ one_on before place after g d new e rest all base within notes on =
           ∙ ap (λ h. d.sent ++ (one.what ∷ (deliver_all h place rest).sent)) n.host ∙ on.sent;
     }
 
+-- a list of no length has no items
+pub no_items : {X : Type 0} (xs : List X) → length xs ≡ 0 → xs ≡ []
+no_items [] none = refl
+no_items (x ∷ xs) none = absurd (omega (arith, none))
+
 -- all are drafted
 pub none_left : {P : Type 0} (name : List ℕ) (g : HostImage) (place : ℕ) (d : Draft P) (all : DeliveredAll)
     → DraftsOn name g place d [] all → DraftsAll name g d all

@@ -4,13 +4,14 @@ use Rattle.sc_types.specs.declared.effect.Effect.{Effect}
 use Rattle.sc_core.specs.Bodies.{image, session_image}
 use Rattle.sc_core.specs.Deliveries.{deliver_all}
 use Rattle.sc_core.proofs.SetLemmas.{map_long}
-use Rattle.sc_core.proofs.TurnedLemmas.{DraftsOn, none_left, none_yet, one_on}
+use Rattle.sc_core.proofs.TurnedLemmas.{DraftsOn, no_items, none_left, none_yet, one_on}
 use Rattle.sc_core.proofs.body.Body.draft_effects.Goals as goal
 
 pub loop-effect-init : goal.loop-effect-init
 loop-effect-init g c =
     let items : into_iter_items c.into_iter-effect-iterator.result ≡ c.args.effects = search rules in
     record {
+      len = search rules;
       numbers = omega (arith, ap length items, ap (λ d. d.events) c.new-draft.ensures);
       drafts = λ h base. subst
           (λ (xs : List Effect). DraftsOn c.args.after.now.session h c.args.place c.new-draft.result xs
@@ -37,6 +38,7 @@ loop-effect-preserved g c =
     let long = map_long session_image c.args.self.now.sessions.items in
     let within : c.args.place < length (image c.args.self.now).sessions = omega (arith, c.requires.within, long) in
     record {
+      len = omega (arith, was.invariant.len, count, c.in-Some.ensures.steps.1);
       numbers = omega (arith, was.invariant.numbers, count, c.in_ok-draft_effect.ensures.number);
       drafts = λ h base. one_on (image c.args.self.now) c.args.place after h was.draft _ c.in-Some.effect rest
           (deliver_all h c.args.place c.args.effects) base within c.in_ok-draft_effect.ensures.notes
@@ -48,7 +50,8 @@ pub returns : goal.returns
 returns g c = λ h base.
     let was = c.loop-effect in
     let after = c.args.after.now in
-    let items : into_iter_items was.effect-iterator ≡ [] = search (c.in-None.ensures, rules) in
+    let items : into_iter_items was.effect-iterator ≡ [] =
+    no_items (into_iter_items was.effect-iterator) (was.invariant.len ∙ c.in-None.ensures.steps.0) in
     none_left after.session h c.args.place was.draft (deliver_all h c.args.place c.args.effects)
     (subst (λ (xs : List Effect). DraftsOn after.session h c.args.place was.draft xs
     (deliver_all h c.args.place c.args.effects)) items (was.invariant.drafts h base))
