@@ -1,5 +1,5 @@
 -- What is prepared of an effect is what the host machine does.
-use Rattle.std.proofs.Common.{codes, count_by, get_or, slice_set, Result, Ok, Err, IfOk, ◌≡◌, ℕ, ◌+◌, ◌-◌, ◌^◌, ◌<◌, ◌≤◌, ◌++◌, ◌&&◌, ◌==◌, All, Bool, true, false, nat_lt, not, filter, if◌then◌else◌, Option, Some, None, List, [], ◌∷◌, length, map, option_map, slice_get, refl, sym, ap, subst, ◌∙◌, arith}
+use Rattle.std.proofs.Common.{codes, count_by, get_or, slice_set, Result, Ok, Err, IfOk, ◌≡◌, ℕ, ◌+◌, ◌-◌, ◌^◌, ◌<◌, ◌≤◌, ◌++◌, ◌&&◌, ◌==◌, true, false, nat_lt, not, filter, if◌then◌else◌, Option, Some, None, List, [], ◌∷◌, length, map, option_map, slice_get, refl, sym, ap, subst, ◌∙◌, arith}
 use Rattle.std.specs.List.{AllByRecursion}
 use Rattle.std.specs.Option.{option_map_or}
 use Rattle.std.proofs.lemmas.List.Elements.{All-filter}
@@ -20,16 +20,15 @@ use Rattle.sc_types.specs.declared.host.InvokerImage.{InvokerImage}
 use Rattle.sc_types.specs.declared.host.SessionImage.{SessionImage}
 use Rattle.sc_types.specs.declared.host.TimerImage.{TimerImage}
 use Rattle.sc_types.specs.declared.host.To.{To}
-use Rattle.sc_types.specs.declared.session.Phase.{Phase}
 use Rattle.sc_types.specs.declared.session.SessionState.{SessionState}
 use Rattle.sc_core.specs.Aims.{Outline, aim, carried, outline, outlines, received}
 use Rattle.sc_core.specs.Changes.{put_state, queue_at, tell}
 use Rattle.sc_core.specs.Deliveries.{Delivered, arriving, delay_send, deliver, deliver_of, due_time, hears, left_as, next_send, queue, send_now, undo, unreachable}
-use Rattle.sc_core.specs.Drafts.{AreNumbered, Drafts, Follows, IsDraft, IsOfStep, IsSender, Notes, so_far}
+use Rattle.sc_core.specs.Drafts.{Drafts, Follows, IsDraft, IsOfStep, IsSender, Notes, so_far}
 use Rattle.sc_core.specs.Hosts.{is_live, is_running, with_session}
 use Rattle.sc_core.specs.Installing.{CanApply, CanApplyAll, HasTarget, HaveTargets, apply, installed}
 use Rattle.sc_core.specs.declared.aims.Aim.{Aim}
-use Rattle.sc_core.specs.declared.aims.Aim.TheVariants.{Drops, Fails, Reaches}
+use Rattle.sc_core.specs.declared.aims.Aim.TheVariants.{Reaches}
 use Rattle.sc_core.specs.declared.change.Change.{Change}
 use Rattle.sc_core.specs.declared.change.Change.TheVariants.{Delay, Queue, Tell, Undo}
 use Rattle.sc_core.specs.declared.draft.Draft.{Draft}

@@ -11,6 +11,7 @@ pub mod HeldLemmas
 pub mod InstallLemmas
 pub mod MoveLemmas
 pub mod NameLemmas
+pub mod NextLemmas
 pub mod Once
 pub mod PlanLemmas
 pub mod PrepareLemmas

@@ -1,5 +1,5 @@
 -- The plan of a session's chart, and the turn that it computes.
-use Rattle.std.proofs.Common.{◌≡◌, ℕ, ◌++◌, All, Bool, true, false, Option, Some, None, Ok, is_some, option_and_then, option_map, unwrap_or, List, [], append-nil, get_or, map, position, slice_get, refl, sym, ap, subst, ◌∙◌}
+use Rattle.std.proofs.Common.{◌≡◌, ◌<◌, ℕ, zero, suc, arith, length, ◌∷◌, ◌++◌, All, true, Option, Some, None, Ok, is_some, option_and_then, option_map, unwrap_or, List, [], append-nil, get_or, map, slice_get, refl, sym, ap, subst, ◌∙◌}
 use Rattle.std.specs.Arc.{arc_value}
 use Rattle.std.specs.Result.{result_ok}
 use Rattle.std.proofs.lemmas.Option.{get_or_from_slice_get, same_Some, slice_get-get_or, slice_get-map, slice_get_within}
@@ -59,11 +59,14 @@ plan_of_name {P = P} chart_of h name plans has =
         let named : chart_named (image h) name ≡ chart_of (arc_value c.plan) =
         ap (λ o. unwrap_or (option_and_then (chart_at (image h)) o) bare_chart) placed
         ∙ ap (λ o. unwrap_or (option_and_then (λ (i : ChartImage). result_ok (legal_chart_of i.text)) o) bare_chart) there
-        ∙ ap (λ r. unwrap_or (result_ok r) bare_chart) spelled in
-        (c, ap (λ o. option_and_then (slice_get items) o) placed ∙ at, record {
-          plan = sym named;
-          legal = legal_of (chart_text expr_of x.text) (chart_of (arc_value c.plan)) spelled;
-        })
+        ∙ ap (λ r. unwrap_or (result_ok r) bare_chart) spelled in (
+          c,
+          ap (λ o. option_and_then (slice_get items) o) placed ∙ at,
+          record {
+            plan = sym named;
+            legal = legal_of (chart_text expr_of x.text) (chart_of (arc_value c.plan)) spelled;
+          },
+        )
 
     at_place : (o : Option ℕ) → chart_place (image h) name ≡ o → is_some o ≡ true
         → (c : InstalledChart P) × (option_and_then (slice_get items) (chart_place (image h) name) ≡ Some c)
@@ -168,3 +171,10 @@ pub plan_seen : {P : Type 0} (chart_of : P → Chart) (h : Body P) (place : ℕ)
 plan_seen chart_of h place s c x held at is there =
     (plan_found chart_of h place s c held at is).plan
     ∙ ap (λ (y : SessionImage). chart_named (image h) y.state.chart) (only_there h.sessions.items place s x at there)
+
+-- a place below their number is that of a session
+pub session_there : (items : List Session) (place : ℕ) → place < length items
+    → (s : SessionImage) × (slice_get (map session_image items) place ≡ Some s)
+session_there [] place less = absurd (omega (arith, less))
+session_there (x ∷ xs) zero less = (session_image x, refl)
+session_there (x ∷ xs) (suc place) less = session_there xs place (omega (arith, less))

@@ -1,11 +1,9 @@
 -- What is always true of the host machine is true of it after each command.
-use Rattle.std.proofs.Common.{◌≡◌, ℕ, suc, ◌+◌, ◌-◌, ◌*◌, ◌^◌, ◌≤◌, ◌++◌, ◌==◌, ◌&&◌, All, Bool, true, false, not, if◌then◌else◌, filter, nat_lt, Option, Some, None, List, [], ◌∷◌, length, get_or, slice_get, refl, sym, ap, subst, ◌∙◌, arith}
+use Rattle.std.proofs.Common.{◌≡◌, ℕ, suc, ◌+◌, ◌-◌, ◌*◌, ◌^◌, ◌≤◌, ◌==◌, ◌&&◌, All, Bool, true, false, not, if◌then◌else◌, nat_lt, Option, Some, None, List, [], ◌∷◌, length, get_or, slice_get, refl, sym, ap, subst, ◌∙◌, arith}
 use Rattle.std.specs.Option.{option_map_or}
 use Rattle.std.proofs.lemmas.List.Elements.{All-cons, All-filter, All-head, All-push, All-set, All-tail}
 use Rattle.sc_types.specs.Sends.{is_before, is_of, is_send, with_send}
-use Rattle.sc_types.specs.declared.chart.Chart.{Chart}
 use Rattle.sc_types.specs.declared.command.Command.{Command}
-use Rattle.sc_types.specs.declared.command.Command.TheVariants.{Step}
 use Rattle.sc_types.specs.declared.effect.Effect.{Effect}
 use Rattle.sc_types.specs.declared.effect.Effect.TheVariants.{CancelChild, CancelSend, Forward, Invoke, Send}
 use Rattle.sc_types.specs.declared.event.Event.{Event}
@@ -21,8 +19,7 @@ use Rattle.sc_types.specs.declared.session.Phase.TheVariants as phase
 use Rattle.sc_law.specs.Fitting.{Fits}
 use Rattle.sc_law.specs.Turn.{turn}
 use Rattle.sc_core.specs.Commands.{Answer, advance, answer, fresh_session, posted_event, put_in}
-use Rattle.sc_core.specs.Cues.{cue_of}
-use Rattle.sc_core.specs.Deliveries.{Delivered, deliver, deliver_all, deliver_of, delay_send, due_time, end_at, end_in, fire, fire_all, hears, is_cut_from, is_due, left_as, next_send, queue, receiver_name, send_found, send_named, send_now, undo, unreachable, while_live}
+use Rattle.sc_core.specs.Deliveries.{deliver, deliver_all, deliver_of, delay_send, due_time, end_at, end_in, fire, fire_all, hears, is_cut_from, is_due, left_as, next_send, queue, receiver_name, send_found, send_named, send_now, undo, unreachable, while_live}
 use Rattle.sc_core.specs.Drafts.{AreNumbered}
 use Rattle.sc_core.specs.FittingHosts.{FitsChart}
 use Rattle.sc_core.specs.Hosts.{chart_named, has_chart, is_live, is_running, session_named, with_session}
@@ -31,7 +28,7 @@ use Rattle.sc_core.specs.Preparing.{FitsOn, StepFits}
 use Rattle.sc_core.proofs.ChangeLemmas.{Change, cancels, change_of, installs, posts, refuses, starts, ticks, turns, with_chart, with_fresh}
 use Rattle.sc_core.proofs.FitLemmas.{fits-at, fits-more, fits-same, fresh-fits, live-runs}
 use Rattle.sc_core.proofs.FoundLemmas.{is_at}
-use Rattle.sc_core.proofs.MoveLemmas.{all_events, all_fire, all_move, charts_moved, charts_moves, commands_moved, commands_moves, due_in, end_moves, events_moved, fire_events, fits_moved, fits_moves, puts, queues, same, ticked}
+use Rattle.sc_core.proofs.MoveLemmas.{all_events, all_fire, all_move, commands_moved, commands_moves, due_in, end_moves, events_moved, fire_events, fits_moved, fits_moves, puts, queues, same, ticked}
 use Rattle.sc_core.proofs.TurnLemmas.{turn-of, turn-past}
 
 -- the clock stands, and the pending sends keep their numbers
@@ -198,10 +195,12 @@ stepped_fits g s cue on f =
 turn_sound : (g : HostImage) (place : ℕ) (s : SessionImage) (cue : Cue) → IsSound g → slice_get g.sessions place ≡ Some s
     → FitsOn g s cue → length (turn (chart_named g s.state.chart) s.state cue).effects ≤ 2 ^ 64 - 1
     → IsSound (record (end_at (deliver_all
-        (with_session g place (put_in s cue (turn (chart_named g s.state.chart) s.state cue))) place
-        (turn (chart_named g s.state.chart) s.state cue).effects).host place) { commands = (end_at (deliver_all
-        (with_session g place (put_in s cue (turn (chart_named g s.state.chart) s.state cue))) place
-        (turn (chart_named g s.state.chart) s.state cue).effects).host place).commands + 1 })
+    (with_session g place (put_in s cue (turn (chart_named g s.state.chart) s.state cue))) place
+    (turn (chart_named g s.state.chart) s.state cue).effects).host place) {
+      commands = (end_at (deliver_all
+          (with_session g place (put_in s cue (turn (chart_named g s.state.chart) s.state cue))) place
+          (turn (chart_named g s.state.chart) s.state cue).effects).host place).commands + 1;
+    })
 turn_sound g place s cue sound there on few =
     let t = turn (chart_named g s.state.chart) s.state cue in
     let put = with_session g place (put_in s cue t) in

@@ -1,12 +1,11 @@
 -- What is prepared of a step is the step.
-use Rattle.std.proofs.Common.{append-nil, get_or, ◌≡◌, ℕ, ◌+◌, ◌^◌, ◌<◌, ◌≤◌, ◌++◌, zero, suc, All, Option, Some, None, List, [], ◌∷◌, drop, length, map, option_map, slice_get, slice_set, refl, sym, ap, subst, ◌∙◌, arith}
+use Rattle.std.proofs.Common.{append-nil, get_or, ◌≡◌, ℕ, ◌+◌, ◌^◌, ◌<◌, ◌++◌, zero, suc, Some, List, [], ◌∷◌, drop, length, option_map, slice_get, slice_set, refl, sym, ap, subst, ◌∙◌, arith}
 use Rattle.std.specs.List.{AllByRecursion}
 use Rattle.std.specs.Option.{option_map_or}
 use Rattle.std.proofs.lemmas.List.{append_assoc, length-set, map-set}
 use Rattle.std.proofs.lemmas.Option.{slice_get-get_or, slice_get_within}
 use Rattle.sc_types.specs.declared.chart.Chart.{Chart}
 use Rattle.sc_types.specs.declared.effect.Effect.{Effect}
-use Rattle.sc_types.specs.declared.event.Event.{Event}
 use Rattle.sc_types.specs.declared.history.LogLine.{LogLine}
 use Rattle.sc_types.specs.declared.host.HostImage.{HostImage}
 use Rattle.sc_types.specs.declared.host.SessionImage.{SessionImage}
@@ -18,12 +17,12 @@ use Rattle.sc_core.specs.Aims.{outline, outlines}
 use Rattle.sc_core.specs.Changes.{put_state, take_front}
 use Rattle.sc_core.specs.Commands.{fresh_session, put_in, step_turn}
 use Rattle.sc_core.specs.Deliveries.{DeliveredAll, deliver, deliver_all, end_at}
-use Rattle.sc_core.specs.Drafts.{AreNumbered, DraftsAll, Follows, IsBase, IsDraft, IsOfStep, IsSender, Notes, so_far}
+use Rattle.sc_core.specs.Drafts.{AreNumbered, DraftsAll, IsBase, IsDraft, IsOfStep, IsSender, Notes, so_far}
 use Rattle.sc_core.specs.Hosts.{with_session}
 use Rattle.sc_core.specs.HostStates.{ArePlanned}
-use Rattle.sc_core.specs.Installing.{CanApply, CanApplyAll, HasTarget, HaveTargets, apply, installed}
+use Rattle.sc_core.specs.Installing.{CanApplyAll, HaveTargets, apply, installed}
 use Rattle.sc_core.specs.Preparing.{InstallNone, Prepares}
-use Rattle.sc_core.specs.Stepping.{put_changes, taken_front}
+use Rattle.sc_core.specs.Stepping.{put_changes}
 use Rattle.sc_core.specs.declared.change.Change.{Change}
 use Rattle.sc_core.specs.declared.change.Change.TheVariants.{Advance, Count, Delay, End, Fire, Flag, Install, Lose, PutState, Queue, Start, TakeFront, Tell, Undo}
 use Rattle.sc_core.specs.declared.draft.Draft.{Draft}
@@ -161,7 +160,7 @@ step_none name g d place cue after draft = λ chart_of.
 pub step_prepared : {P : Type 0} (g : HostImage) (place : ℕ) (s : SessionImage) (cue : Cue) (t : TurnResult) (d : Draft P)
     (p : Prepared P) → slice_get g.sessions place ≡ Some s → t.after.session ≡ s.state.session → g.commands + 1 < 2 ^ 64
     → DraftsAll t.after.session (with_session g place (put_in s cue t)) d
-        (deliver_all (with_session g place (put_in s cue t)) place t.effects)
+    (deliver_all (with_session g place (put_in s cue t)) place t.effects)
     → p.changes ≡ step_changes place cue t.after d.changes → p.reply ≡ (step_turn g place s cue t).reply
     → p.logs ≡ t.logs → p.sent ≡ d.sent → Prepares (step_turn g place s cue t) g p
 step_prepared {P = P} g place s cue t d p there named commands drafted changes reply logs sent =
@@ -231,20 +230,22 @@ sender_at before place after g d base draft within =
     let long = within_outlines g (so_far g d) draft.follows.outlines in
     let short = within_outlines (put_state before place after) g base.outlines in
     let less : place < length (so_far g d).sessions = omega (arith, within, long, short, put_long before place after) in
-    let t = get_or (so_far g d).sessions place (fresh_session [] []) in
-    (t, record {
-      outlines = base.outlines;
-      clock = base.clock;
-      timers = base.timers;
-      draft = draft;
-      there = slice_get-get_or (so_far g d).sessions place (fresh_session [] []) less;
-    })
+    let t = get_or (so_far g d).sessions place (fresh_session [] []) in (
+      t,
+      record {
+        outlines = base.outlines;
+        clock = base.clock;
+        timers = base.timers;
+        draft = draft;
+        there = slice_get-get_or (so_far g d).sessions place (fresh_session [] []) less;
+      },
+    )
 
 -- one effect more is drafted
 pub one_on : {P : Type 0} (before : HostImage) (place : ℕ) (after : SessionState) (g : HostImage) (d new : Draft P) (e : Effect)
     (rest : List Effect) (all : DeliveredAll) → IsBase before place after g → place < length before.sessions
     → ((h : HostImage) (t : SessionImage) → IsSender before place after h d t
-        → Notes after.session h d new (deliver (so_far h d) place e))
+    → Notes after.session h d new (deliver (so_far h d) place e))
     → DraftsOn after.session g place d (e ∷ rest) all → DraftsOn after.session g place new rest all
 one_on before place after g d new e rest all base within notes on =
     let sender = sender_at before place after g d base on.draft within in
@@ -279,8 +280,8 @@ pub turn_drafted : {P : Type 0} (before : HostImage) (place : ℕ) (s : SessionI
     → slice_get before.sessions place ≡ Some s → AreNumbered before
     → ((g : HostImage) → IsBase before place r.0 g → DraftsAll r.0.session g d (deliver_all g place r.1))
     → DraftsAll t.after.session (with_session before place (put_in s cue t)) d
-        (deliver_all (with_session before place (put_in s cue t)) place t.effects)
+    (deliver_all (with_session before place (put_in s cue t)) place t.effects)
 turn_drafted before place s cue d r t is there numbers drafted =
     let g = with_session before place (put_in s cue t) in
     subst (λ (x : SessionState × List Effect × List LogLine). IsBase before place x.0 g
-        → DraftsAll x.0.session g d (deliver_all g place x.1)) is (drafted g) (put_base before place s cue t there numbers)
+    → DraftsAll x.0.session g d (deliver_all g place x.1)) is (drafted g) (put_base before place s cue t there numbers)

@@ -195,12 +195,7 @@ impl<P: Drop> Body<P> {
     }
 
     /// How many sends of a session have an id after the changes so far.
-    fn pending(
-        &self,
-        draft: &Draft<P>,
-        session: &Word,
-        id: &SmallBytes,
-    ) -> Result<u64, NoMemory>
+    fn pending(&self, draft: &Draft<P>, session: &Word, id: &SmallBytes) -> Result<u64, NoMemory>
         ensures { IfOk result (λ n. (g : HostImage) → g.timers ≡ self.now.timers.sends → IsDraft session.now g draft.now
             → n ≡ count_by (is_send session.now id.now) (so_far g draft.now).timers) }
     {

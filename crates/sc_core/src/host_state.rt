@@ -95,7 +95,10 @@ impl<E: Engine> HostState<E> {
     }
 
     /// Makes the room that prepared changes need. Out of memory, the host machine is as before.
-    pub(crate) fn with_room(&mut self, prepared: Prepared<E::Plan>) -> Result<Prepared<E::Plan>, NoMemory>
+    pub(crate) fn with_room(
+        &mut self,
+        prepared: Prepared<E::Plan>,
+    ) -> Result<Prepared<E::Plan>, NoMemory>
         requires can { CanMake E.chart_of self.old.image prepared.changes }
         ensures image { self.new.image ≡ self.old.image }
         ensures prepared { IfOk result (λ p. p ≡ prepared) }

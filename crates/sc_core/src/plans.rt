@@ -29,10 +29,7 @@ impl<P: Drop> Body<P> {
 }
 
 /// The installed chart that the session at a place runs.
-pub(crate) fn chart_at<E: Engine>(
-    body: &Body<E::Plan>,
-    place: usize,
-) -> &InstalledChart<E::Plan>
+pub(crate) fn chart_at<E: Engine>(body: &Body<E::Plan>, place: usize) -> &InstalledChart<E::Plan>
     requires held { IsHeld E.chart_of body.now }
     requires within { place < length body.now.sessions.items }
     ensures { (s : SessionImage) → slice_get (image body.now).sessions place ≡ Some s

@@ -1,10 +1,14 @@
-ghost use Rattle.std.specs.Prelude.{◌≡◌, ◌<◌, ◌^◌, IfOk, OnOk};
-ghost use Rattle.sc_core.specs.Commands.{answer, step};
-ghost use Rattle.sc_core.specs.Hosts.{session_named};
+ghost use Rattle.std.specs.Prelude.{◌≡◌, ◌<◌, ◌^◌, IfOk, OnOk, Some, length, slice_get};
+ghost use Rattle.sc_core.specs.Bodies.{Agrees, Keeps, image};
+ghost use Rattle.sc_core.specs.Commands.{answer, step, step_turn};
+ghost use Rattle.sc_core.specs.Cues.{cue_of};
+ghost use Rattle.sc_core.specs.Holding.{IsHeld};
+ghost use Rattle.sc_core.specs.Hosts.{chart_named, session_named};
 ghost use Rattle.sc_core.specs.HostStates.{ArePlanned, CanInstall};
-ghost use Rattle.sc_core.specs.Preparing.{InstallNone, IsNext, Prepares, StepFits};
-ghost use Rattle.sc_core.specs.Bodies.{Agrees, image};
+ghost use Rattle.sc_core.specs.Preparing.{FitsOn, InstallNone, IsNext, Prepares, StepFits};
+ghost use Rattle.sc_law.specs.Turn.{turn};
 ghost use Rattle.sc_types.specs.declared.command.Command.TheVariants as command;
+ghost use Rattle.sc_types.specs.declared.host.SessionImage.{SessionImage};
 
 use crate::body::Body;
 use crate::cues::cue_of;
@@ -14,6 +18,7 @@ use crate::prepared::Prepared;
 use sc_base::{NoMemory, Plain, Word};
 use sc_law::Engine;
 use sc_types::{Command, Cue, Phase, Refusal};
+use std::alloc::Global;
 
 impl<P: Drop> Body<P> {
     /// The place of the session of a name, and its cue; or why it takes no step.
@@ -34,67 +39,95 @@ impl<P: Drop> Body<P> {
     }
 }
 
+/// Prepares the step of the session at a place, which has this cue.
+fn draft_turn<E: Engine>(
+    alloc: Global,
+    e: &E,
+    body: &mut Body<E::Plan>,
+    place: usize,
+    cue: &Cue,
+) -> Result<Prepared<E::Plan>, NoMemory>
+    requires held { IsHeld E.chart_of body.old }
+    requires room { body.old.commands < 2 ^ 48 }
+    requires within { place < length body.old.sessions.items }
+    requires cue { (s : SessionImage) → slice_get (image body.old).sessions place ≡ Some s → cue_of s ≡ Some cue.now }
+    ensures keeps { Keeps body.old body.new }
+    ensures charts { body.new.charts.items ≡ body.old.charts.items }
+    ensures step { IfOk result (λ p. (s : SessionImage) → slice_get (image body.old).sessions place ≡ Some s
+        → Prepares (step_turn (image body.old) place s cue.now
+        (turn (chart_named (image body.old) s.state.chart) s.state cue.now)) (image body.old) p) }
+    ensures none { IfOk result (λ p. InstallNone p.changes) }
+    ensures fits { OnOk result ((s : SessionImage) → slice_get (image body.old).sessions place ≡ Some s
+        → FitsOn (image body.old) s cue.now) }
+{
+    body.settle(place)?;
+    let turned = turn_of(alloc, e, body, place, cue)?;
+    // A turn's type keeps that it is the turn of its chart.
+    let _chart = turned.chart();
+    body.draft_turn(alloc, place, cue, turned)
+}
+
+/// Prepares that a session takes the turn of its cue.
+fn draft_step<E: Engine>(
+    alloc: Global,
+    e: &E,
+    body: &mut Body<E::Plan>,
+    session: &Word,
+) -> Result<Prepared<E::Plan>, NoMemory>
+    requires held { IsHeld E.chart_of body.old }
+    requires room { body.old.commands < 2 ^ 48 }
+    ensures keeps { Keeps body.old body.new }
+    ensures charts { body.new.charts.items ≡ body.old.charts.items }
+    ensures step { IfOk result
+        (Prepares (step (image body.old) (session_named (image body.old) session.now)) (image body.old)) }
+    ensures none { IfOk result (λ p. InstallNone p.changes) }
+    ensures fits { OnOk result (StepFits (image body.old) (command.Step session.now)) }
+{
+    match body.next_step(session)? {
+        Ok((place, cue)) => draft_turn(alloc, e, body, place, &cue),
+        Err(why) => Ok(Prepared::refused(alloc, why)),
+    }
+}
+
+/// Prepares what a command does, but for the room that its changes need.
+fn draft<E: Engine>(
+    alloc: Global,
+    e: &E,
+    body: &mut Body<E::Plan>,
+    command: &Command,
+) -> Result<Prepared<E::Plan>, NoMemory>
+    requires held { IsHeld E.chart_of body.old }
+    requires room { body.old.commands < 2 ^ 48 }
+    ensures keeps { Keeps body.old body.new }
+    ensures charts { body.new.charts.items ≡ body.old.charts.items }
+    ensures answer { IfOk result (Prepares (answer (image body.old) command.now) (image body.old)) }
+    ensures plans { IfOk result (λ p. ArePlanned E.chart_of p.changes) }
+    ensures fits { OnOk result (StepFits (image body.old) command.now) }
+{
+    match command {
+        Command::Install { name, chart } => body.draft_install(alloc, e, name, chart),
+        Command::Start { session, chart } => body.draft_start(alloc, session, chart),
+        Command::Post {
+            session,
+            event,
+            pairs,
+        } => body.draft_post(alloc, session, event, pairs),
+        Command::Tick { ticks } => body.draft_tick(alloc, *ticks),
+        Command::Cancel { session } => body.draft_cancel(alloc, session),
+        Command::Step { session } => draft_step(alloc, e, body, session),
+    }
+}
+
 impl<E: Engine> HostState<E> {
-    /// Prepares the step of the session at a place, which has this cue.
-    fn draft_turn(&mut self, e: &E, place: usize, cue: &Cue) -> Result<Prepared<E::Plan>, NoMemory>
-        requires room { self.old.image.commands < 2 ^ 48 }
-        ensures image { self.new.image ≡ self.old.image }
-    {
-        self.body.settle(place)?;
-        let turned = turn_of(self.alloc, e, &self.body, place, cue)?;
-        self.body.draft_turn(self.alloc, place, cue, turned)
-    }
-
-    /// Prepares that a session takes the turn of its cue.
-    fn draft_step(&mut self, e: &E, session: &Word) -> Result<Prepared<E::Plan>, NoMemory>
-        requires room { self.old.image.commands < 2 ^ 48 }
-        ensures image { self.new.image ≡ self.old.image }
-        ensures step { IfOk result
-            (Prepares (step self.old.image (session_named self.old.image session.now)) self.old.image) }
-        ensures none { IfOk result (λ p. InstallNone p.changes) }
-        ensures fits { OnOk result (StepFits self.old.image (command.Step session.now)) }
-    {
-        match self.body.next_step(session)? {
-            Ok((place, cue)) => self.draft_turn(e, place, &cue),
-            Err(why) => Ok(Prepared::refused(self.alloc, why)),
-        }
-    }
-
-    /// Prepares what a command does, but for the room that it needs.
-    fn draft(&mut self, e: &E, command: &Command) -> Result<Prepared<E::Plan>, NoMemory>
-        requires room { self.old.image.commands < 2 ^ 48 }
-        ensures image { self.new.image ≡ self.old.image }
-        ensures answer { IfOk result (Prepares (answer self.old.image command.now) self.old.image) }
-        ensures plans { IfOk result (λ p. ArePlanned E.chart_of p.changes) }
-        ensures fits { OnOk result (StepFits self.old.image command.now) }
-    {
-        match command {
-            Command::Install { name, chart } => self.body.draft_install(self.alloc, e, name, chart),
-            Command::Start { session, chart } => self.body.draft_start(self.alloc, session, chart),
-            Command::Post {
-                session,
-                event,
-                pairs,
-            } => self.body.draft_post(self.alloc, session, event, pairs),
-            Command::Tick { ticks } => self.body.draft_tick(self.alloc, *ticks),
-            Command::Cancel { session } => self.body.draft_cancel(self.alloc, session),
-            Command::Step { session } => self.draft_step(e, session),
-        }
-    }
-
     /// Prepares what a command does: its answer, and all memory that its changes need. The host machine stays as it is
     /// until `install`, also where memory is wanting.
-    pub fn prepare(
-        &mut self,
-        e: &E,
-        command: &Command,
-    ) -> Result<Prepared<E::Plan>, NoMemory>
+    pub fn prepare(&mut self, e: &E, command: &Command) -> Result<Prepared<E::Plan>, NoMemory>
         requires room { self.old.image.commands < 2 ^ 48 }
         ensures image { self.new.image ≡ self.old.image }
         ensures answer { IfOk result (Prepares (answer self.old.image command.now) self.old.image) }
         ensures can { IfOk result (λ p. CanInstall E.chart_of self.new p.changes) }
     {
-        let prepared = self.draft(e, command)?;
+        let prepared = draft(self.alloc, e, &mut self.body, command)?;
         // A length fits a usize, so the numbers of events cannot run out in one command.
         let _count = prepared.sent.len();
         self.with_room(prepared)

@@ -5,7 +5,6 @@ ghost use Rattle.sc_core.specs.Deliveries.{deliver_all};
 ghost use Rattle.sc_core.specs.Drafts.{AreNumbered, DraftsAll, IsBase};
 ghost use Rattle.sc_core.specs.Preparing.{InstallNone, Prepares};
 ghost use Rattle.sc_core.specs.Stepping.{put_changes};
-ghost use Rattle.sc_law.specs.Turned.{TurnedOf};
 ghost use Rattle.sc_types.specs.declared.host.HostImage.{HostImage};
 ghost use Rattle.sc_types.specs.declared.host.SessionImage.{SessionImage};
 
@@ -93,7 +92,7 @@ impl<P: Drop> Body<P> {
             ≡ Some turned.after.session }
         ensures step { IfOk result (λ p. (s : SessionImage) → slice_get (image self.now).sessions place ≡ Some s
             → Prepares (step_turn (image self.now) place s cue.now
-                (record { after = turned.after; effects = turned.effects; logs = turned.logs })) (image self.now) p) }
+            (record { after = turned.after; effects = turned.effects; logs = turned.logs })) (image self.now) p) }
         ensures none { IfOk result (λ p. InstallNone p.changes) }
     {
         let (after, effects, logs) = turned.into_parts();

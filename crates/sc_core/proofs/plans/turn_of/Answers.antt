@@ -1,5 +1,4 @@
 use Rattle.std.proofs.Common.{ap, subst, sym, ◌∙◌}
-use Rattle.sc_types.specs.declared.session.Phase.TheVariants.{Running}
 use Rattle.sc_law.specs.Fitting.{Fits}
 use Rattle.sc_law.specs.Legality.{legal_fault}
 use Rattle.sc_core.proofs.DraftLemmas.{each_ok}

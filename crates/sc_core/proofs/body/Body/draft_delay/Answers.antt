@@ -1,4 +1,4 @@
-use Rattle.std.proofs.Common.{◌≡◌, ◌∷◌, [], ◌++◌, ◌+◌, ◌-◌, ◌^◌, ◌&&◌, false, true, nat_lt, ap, sym, ◌∙◌}
+use Rattle.std.proofs.Common.{◌≡◌, ◌+◌, ◌-◌, ◌^◌, ◌&&◌, false, true, nat_lt, ap, sym, ◌∙◌}
 use Rattle.sc_types.specs.declared.history.Delivery.TheVariants.{Timed}
 use Rattle.sc_core.specs.Bodies.{image}
 use Rattle.sc_core.specs.Deliveries.{due_time}

@@ -1,4 +1,4 @@
-use Rattle.std.proofs.Common.{◌≡◌, ◌∷◌, [], ◌++◌, false, true, codes, ap, sym, ◌∙◌}
+use Rattle.std.proofs.Common.{◌≡◌, false, true, codes, ap, sym, ◌∙◌}
 use Rattle.sc_types.specs.declared.event.Data.TheVariants.{Absent}
 use Rattle.sc_law.specs.Runs.{platform_event}
 use Rattle.sc_core.specs.Bodies.{image}

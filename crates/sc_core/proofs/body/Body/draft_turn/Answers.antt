@@ -8,7 +8,7 @@ use Rattle.sc_core.specs.HostStates.{ArePlanned}
 use Rattle.sc_core.specs.Stepping.{put_changes}
 use Rattle.sc_core.specs.declared.change.Change.TheVariants.{Count, End}
 use Rattle.sc_core.proofs.DraftLemmas.{some_map}
-use Rattle.sc_core.proofs.TurnedLemmas.{joined, step_changes, step_none, step_prepared, turn_drafted}
+use Rattle.sc_core.proofs.TurnedLemmas.{joined, step_none, step_prepared, turn_drafted}
 use Rattle.sc_core.proofs.body.Body.draft_turn.Goals as goal
 
 pub returns-clause-step : goal.returns-clause-step
