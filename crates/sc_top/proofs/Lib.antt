@@ -1,7 +1,12 @@
+pub mod DeliverLemmas
+pub mod FitLemmas
 pub mod InvokingLemmas
+pub mod PendingLemmas
 pub mod Promise
 pub mod RunLemmas
 pub mod RunsLemmas
 pub mod SayingLemmas
 pub mod ServedLemmas
 pub mod StateCountLemmas
+pub mod StepLemmas
+pub mod WeightLemmas

@@ -1,4 +1,5 @@
 pub mod Asked
+pub mod Held
 pub mod InvokingCharts
 pub mod Lines
 pub mod Promise

@@ -4,6 +4,7 @@
 
 mod charts;
 mod check;
+mod host;
 mod program;
 mod report;
 mod run;

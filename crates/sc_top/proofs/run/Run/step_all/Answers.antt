@@ -1,7 +1,10 @@
-use Rattle.std.proofs.Common.{◌≡◌, suc, ◌-◌, Some, refl, arith, rules}
+use Rattle.std.proofs.Common.{◌≡◌, suc, ◌-◌, Some, refl, arith, rules, []}
 use Rattle.sc_core.specs.Cues.{ready}
 use Rattle.sc_top.proofs.RunLemmas.{goes_further, goes_by_step}
 use Rattle.sc_top.proofs.run.Run.step_all.Goals as goal
+
+pub make-requires : goal.make-requires
+make-requires c = record { held = (c.loop-self.invariant []).held }
 
 pub loop-self-preserved : goal.loop-self-preserved
 loop-self-preserved c =
