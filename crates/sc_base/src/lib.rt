@@ -22,6 +22,7 @@ pub use queue::Queue;
 pub use sequence::Sequence;
 pub use small_bytes::{Share, SmallBytes};
 pub use text::{
-    Name, PLAIN_NAME_LIMIT, PlainName, TEXT_LIMIT, Unfit, Word, is_plain_name, is_text, is_word,
+    Name, PLAIN_NAME_LIMIT, PlainName, TEXT_LIMIT, Unfit, Word, is_plain_name, is_text, is_utf8,
+    is_word,
 };
 pub use writer::TextWriter;

@@ -47,13 +47,19 @@ impl Model for Share {
     ghost view = { λ s. s.counted };
 }
 
-/// Bytes that never change, which contracts see as a list of numbers. Up to 23 of them lie in the value itself, and
-/// more of them have a count of owners, so that a copy allocates nothing.
+/// Where bytes lie.
+#[derive(Debug, Drop)]
+enum Held {
+    /// In the value itself, the first ones of the room.
+    Here { len: u8, room: [u8; 22] },
+    Elsewhere(Counted),
+}
+
+/// Bytes that never change, which contracts see as a list of numbers. Up to 22 of them lie in the value itself, which
+/// takes 24 bytes, and more of them have a count of owners, so that a copy allocates nothing.
 #[derive(Debug, Drop)]
 pub struct SmallBytes {
-    counted: Option<Counted>,
-    room: [u8; 23],
-    len: u8,
+    held: Held,
 }
 
 impl Model for SmallBytes {
@@ -71,13 +77,12 @@ impl SmallBytes {
     pub fn from_slice(alloc: Global, bytes: &[u8]) -> Result<SmallBytes, NoMemory>
         ensures { IfOk result (λ s. s ≡ bytes.now) }
     {
-        let mut room = [0u8; 23];
-        if bytes.len() <= 23 {
+        if bytes.len() <= 22 {
+            let mut room = [0u8; 22];
             room[..bytes.len()].copy_from_slice(bytes);
+            let len = bytes.len() as u8;
             return Ok(SmallBytes {
-                counted: None,
-                room,
-                len: bytes.len() as u8,
+                held: Held::Here { len, room },
             });
         }
         let bytes = Vec::from_slice(alloc, bytes)?;
@@ -85,9 +90,7 @@ impl SmallBytes {
             bytes: Arc::new(alloc, bytes)?,
         };
         Ok(SmallBytes {
-            counted: Some(counted),
-            room,
-            len: 0,
+            held: Held::Elsewhere(counted),
         })
     }
 
@@ -95,19 +98,18 @@ impl SmallBytes {
     pub fn empty() -> SmallBytes
         ensures { result ≡ [] }
     {
+        let room = [0u8; 22];
         SmallBytes {
-            counted: None,
-            room: [0u8; 23],
-            len: 0,
+            held: Held::Here { len: 0, room },
         }
     }
 
     pub fn slice(&self) -> &[u8]
         ensures { result.now ≡ self.now }
     {
-        match &self.counted {
-            None => &self.room[..self.len as usize],
-            Some(counted) => counted.bytes.as_slice(),
+        match &self.held {
+            Held::Here { len, room } => &room[..*len as usize],
+            Held::Elsewhere(counted) => counted.bytes.as_slice(),
         }
     }
 
@@ -121,9 +123,9 @@ impl SmallBytes {
     pub fn share(&self) -> Result<Share, AllocError>
         ensures { IfOk result (λ share. share ≡ share_of self.now) }
     {
-        let counted = match &self.counted {
-            None => None,
-            Some(counted) => Some(counted.clone()?),
+        let counted = match &self.held {
+            Held::Here { .. } => None,
+            Held::Elsewhere(counted) => Some(counted.clone()?),
         };
         Ok(Share { counted })
     }
@@ -133,11 +135,15 @@ impl SmallBytes {
         requires own { share ≡ share_of self.now }
         ensures { result ≡ self.now }
     {
-        SmallBytes {
-            counted: share.counted,
-            room: self.room,
-            len: self.len,
-        }
+        let held = match (share.counted, &self.held) {
+            (Some(counted), _) => Held::Elsewhere(counted),
+            (None, Held::Here { len, room }) => Held::Here {
+                len: *len,
+                room: *room,
+            },
+            (None, Held::Elsewhere(_)) => unreachable!(),
+        };
+        SmallBytes { held }
     }
 }
 

@@ -1,6 +1,6 @@
 ghost use Rattle.std.specs.Prelude.{◌≡◌, ◌↔◌, ◌==◌, ◌||◌, not, IsTrue, IfOk};
 ghost use Rattle.std.specs.List.{list_all};
-ghost use Rattle.std.specs.Str.{IsUtf8, is_utf8};
+ghost use Rattle.std.specs.Str.{IsAscii, IsUtf8, is_utf8};
 ghost use Rattle.sc_base.specs.SmallBytes.{share_of};
 ghost use Rattle.sc_base.specs.Text.{is_name_byte, is_letter, is_digit, is_keyword, starts_with_letter, is_plain_name, is_text_byte, is_text, is_name, is_word, IsName, IsWord, IsPlainName};
 
@@ -163,10 +163,20 @@ fn is_text_byte(byte: u8) -> bool
     (byte >= 0x20 || byte == b'\n' || byte == b'\t') && byte != 0x7f
 }
 
-fn is_utf8(text: &[u8]) -> bool
+fn is_ascii(text: &[u8]) -> bool
+    ensures { IsTrue result → IsAscii text.now }
+{
+    text.iter().all(|b| b.is_ascii())
+}
+
+/// Whether these bytes are UTF-8. Most are few and ASCII, which is told faster.
+pub fn is_utf8(text: &[u8]) -> bool
     ensures value { result ≡ is_utf8 text.now }
     ensures form { IsTrue result ↔ IsUtf8 text.now }
 {
+    if is_ascii(text) {
+        return true;
+    }
     match std::str::from_utf8(text) {
         Ok(_) => true,
         Err(_) => false,

@@ -1,7 +1,6 @@
 pub mod Commands
 pub mod Fields
 pub mod Loop
-pub mod NameTests
 pub mod Names
 pub mod Pairs
 pub mod Steps

@@ -4,7 +4,7 @@ use Rattle.sc_base.specs.Text.{IsWord, IsPlainName, is_word, is_plain_name}
 use Rattle.sc_codec.specs.Bodies.{name_field, IsShort}
 use Rattle.sc_codec.specs.Reading.{sized_from, word_from, plain_name_from}
 use Rattle.sc_codec.proofs.Fields.{IsBytes, Taken, Takes, Again, takes_sized, again_sized}
-use Rattle.sc_codec.proofs.NameTests.{word_test, word_of_test, plain_test, plain_of_test}
+use Rattle.sc_base.proofs.NameTests.{word_test, word_of_test, plain_test, plain_of_test}
 use Rattle.sc_codec.proofs.Steps.{takes_tested, again_tested}
 
 word_takes : (bytes name rest : List ℕ) → IsBytes bytes → word_from bytes ≡ Some (name, rest)

@@ -34,7 +34,7 @@ pub(crate) fn put_plain_name(out: &mut Vec<u8>, name: &PlainName) -> Result<(), 
     put_name(out, name.bytes())
 }
 
-#[tactic(auto, using(crate::proofs::NameTests::word_tests), unfolding(crate::specs::Reading::word_from))]
+#[tactic(auto, using(sc_base::proofs::NameTests::word_tests), unfolding(crate::specs::Reading::word_from))]
 pub(crate) fn word_from(alloc: Global, bytes: &[u8]) -> Result<(Word, &[u8]), CodecFault>
     ensures { Gives (λ x. (x.0, x.1.now)) result (word_from bytes.now) }
 {

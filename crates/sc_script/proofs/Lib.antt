@@ -1,3 +1,4 @@
+pub mod CutInOneWay
 pub mod CutLemmas
 pub mod DrawnLemmas
 pub mod JoinedLemmas

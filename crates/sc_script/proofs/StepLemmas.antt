@@ -1,17 +1,15 @@
 -- What is known of the commands that a text spells: none is a step.
-use Rattle.std.proofs.Common.{◌≡◌, ℕ, suc, Bool, true, false, ◌&&◌, Option, Some, None, Ok, Err, List, [], ◌∷◌, if◌then◌else◌, nat_lt, length, ◌==◌, ◌^◌, refl, subst}
-use Rattle.std.specs.List.{AllByRecursion}
+use Rattle.std.proofs.Common.{◌≡◌, ℕ, suc, Bool, true, false, ◌&&◌, Option, Some, None, Ok, Err, List, [], ◌∷◌, if◌then◌else◌, nat_lt, length, ◌==◌, ◌^◌, subst}
 use Rattle.std.specs.Str.{is_utf8}
 use Rattle.sc_base.specs.Text.{is_word}
 use Rattle.sc_expr.specs.Numbers.{below}
 use Rattle.sc_types.specs.Tokens.{number_of}
-use Rattle.sc_types.specs.declared.command.Command.{Command}
 use Rattle.sc_types.specs.declared.command.Command.TheVariants.{Cancel, Install, Start}
 use Rattle.sc_types.specs.declared.limits.TheConstants.{CLIENT_LIMIT, SCRIPT_TEXT_LIMIT}
 use Rattle.sc_script.specs.Lines.{behind_word, first_word, lines, trimmed, without_return}
-use Rattle.sc_script.specs.Meanings.{Said, asks, cancel_line, chart_line, client_line, form_of, meaning, post_line, posted, said, start_line, tick_line, ticked, words_say}
+use Rattle.sc_script.specs.Meanings.{Said, asks, cancel_line, chart_line, form_of, meaning, post_line, posted, said, start_line, tick_line, ticked, words_say}
 use Rattle.sc_script.specs.Pairs.{Pair, pairs_of}
-use Rattle.sc_script.specs.Scripts.{Spelled, before, empty_script, faulty, line_script, put_before, script_from, script_of}
+use Rattle.sc_script.specs.Scripts.{Spelled, faulty, line_script, put_before, script_from, script_of}
 use Rattle.sc_script.specs.declared.fault.Cause.{Cause}
 use Rattle.sc_script.specs.declared.fault.Cause.TheVariants.{BadWord, Extra, Missing, NotUtf8, TooLarge, TooManyClients}
 use Rattle.sc_script.specs.declared.meaning.Form.{Form}

@@ -3,6 +3,7 @@ pub mod Generated
 pub mod Joined
 pub mod Lines
 pub mod Meanings
+pub mod OneWay
 pub mod Pairs
 pub mod Pieces
 pub mod Scripts

@@ -1,16 +1,15 @@
 ghost use Rattle.std.specs.Prelude.{◌≡◌, Ok, Err, Some, IfOk};
-ghost use Rattle.std.specs.Str.{is_utf8};
 ghost use Rattle.sc_script.specs.declared.fault.Cause.{Cause};
 ghost use Rattle.sc_script.specs.Meanings.{chart_line, start_line, post_line, tick_line, cancel_line, client_line, form_word, form_of, said, words_say, meaning};
 
 use crate::fault::Cause;
 use crate::lines::without_return;
-use crate::names::word;
+use crate::names::read_word;
 use crate::pairs::read_pairs;
 use crate::words::{cut_word, trimmed};
-use sc_base::Failure;
+use sc_base::{Failure, is_utf8};
 use sc_expr::number_of;
-use sc_types::{Bytes, Command, is_word};
+use sc_types::{Bytes, Command};
 use std::alloc::Global;
 
 /// What the first word of a line says of its form.
@@ -66,15 +65,6 @@ fn form_of(word: &[u8]) -> Option<Form>
     FORMS.iter().copied().find(|form| word == form_word(*form))
 }
 
-fn is_utf8(text: &[u8]) -> bool
-    ensures { result ≡ is_utf8 text.now }
-{
-    match std::str::from_utf8(text) {
-        Ok(_) => true,
-        Err(_) => false,
-    }
-}
-
 /// What a line says.
 #[tactic(auto, unfolding(crate::specs::Meanings::meaning))]
 pub(crate) fn read_line(alloc: Global, line: &[u8]) -> Result<Meaning, Failure<Cause>>
@@ -123,10 +113,7 @@ fn read_chart(alloc: Global, name: &[u8], json: &[u8]) -> Result<Meaning, Failur
     if json.is_empty() {
         return Err(Failure::Fault(Cause::Missing));
     }
-    if !is_word(name) {
-        return Err(Failure::Fault(Cause::BadWord));
-    }
-    let name = word(alloc, name)?;
+    let name = read_word(alloc, name)?;
     let chart = Bytes::from_slice(alloc, json)?;
     Ok(Meaning::Asks(Command::Install { name, chart }))
 }
@@ -148,11 +135,8 @@ fn read_start(
     if !more.is_empty() {
         return Err(Failure::Fault(Cause::Extra));
     }
-    if !is_word(session) || !is_word(chart) {
-        return Err(Failure::Fault(Cause::BadWord));
-    }
-    let session = word(alloc, session)?;
-    let chart = word(alloc, chart)?;
+    let session = read_word(alloc, session)?;
+    let chart = read_word(alloc, chart)?;
     Ok(Meaning::Asks(Command::Start { session, chart }))
 }
 
@@ -170,12 +154,9 @@ fn read_post(
     if event.is_empty() {
         return Err(Failure::Fault(Cause::Missing));
     }
-    if !is_word(session) || !is_word(event) {
-        return Err(Failure::Fault(Cause::BadWord));
-    }
+    let session = read_word(alloc, session)?;
+    let event = read_word(alloc, event)?;
     let pairs = read_pairs(alloc, pairs)?;
-    let session = word(alloc, session)?;
-    let event = word(alloc, event)?;
     Ok(Meaning::Asks(Command::Post {
         session,
         event,
@@ -212,10 +193,7 @@ fn read_cancel(alloc: Global, session: &[u8], more: &[u8]) -> Result<Meaning, Fa
     if !more.is_empty() {
         return Err(Failure::Fault(Cause::Extra));
     }
-    if !is_word(session) {
-        return Err(Failure::Fault(Cause::BadWord));
-    }
-    let session = word(alloc, session)?;
+    let session = read_word(alloc, session)?;
     Ok(Meaning::Asks(Command::Cancel { session }))
 }
 

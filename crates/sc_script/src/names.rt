@@ -1,7 +1,9 @@
-ghost use Rattle.std.specs.Prelude.{◌≡◌, IfOk};
-ghost use Rattle.sc_base.specs.Text.{IsWord, IsPlainName};
+ghost use Rattle.std.specs.Prelude.{◌≡◌, true, false, Err, IfOk};
+ghost use Rattle.sc_base.specs.Text.{IsWord, is_word};
+ghost use Rattle.sc_script.specs.declared.fault.Cause.{Cause};
 
-use sc_base::{NoMemory, PlainName, Unfit, Word};
+use crate::fault::Cause;
+use sc_base::{Failure, NoMemory, Unfit, Word};
 use std::alloc::Global;
 
 pub(crate) fn word(alloc: Global, text: &[u8]) -> Result<Word, NoMemory>
@@ -15,13 +17,16 @@ pub(crate) fn word(alloc: Global, text: &[u8]) -> Result<Word, NoMemory>
     }
 }
 
-pub(crate) fn plain_name(alloc: Global, text: &[u8]) -> Result<PlainName, NoMemory>
-    requires { IsPlainName text.now }
-    ensures { IfOk result (λ n. n ≡ text.now) }
+/// The word that these bytes are; `BadWord` exactly where they are none.
+#[tactic(auto, using(sc_base::proofs::NameTests::word_tests))]
+pub(crate) fn read_word(alloc: Global, text: &[u8]) -> Result<Word, Failure<Cause>>
+    ensures ok { IfOk result (λ w. (w ≡ text.now) × (is_word text.now ≡ true)) }
+    ensures fault { (cause : Cause) → result ≡ Err (Failure.Fault cause)
+        → (cause ≡ Cause.BadWord) × (is_word text.now ≡ false) }
 {
-    match PlainName::of(alloc, text) {
-        Ok(name) => Ok(name),
-        Err(Unfit::NoMemory) => Err(NoMemory),
-        Err(Unfit::Form) => unreachable!(),
+    match Word::of(alloc, text) {
+        Ok(word) => Ok(word),
+        Err(Unfit::NoMemory) => Err(Failure::NoMemory),
+        Err(Unfit::Form) => Err(Failure::Fault(Cause::BadWord)),
     }
 }

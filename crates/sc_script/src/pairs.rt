@@ -5,11 +5,10 @@ ghost use Rattle.sc_script.specs.declared.fault.Cause.{Cause};
 ghost use Rattle.sc_script.specs.Pairs.{named, pair_of, pairs_of};
 
 use crate::fault::Cause;
-use crate::names::plain_name;
 use crate::pieces::{count_pieces, cut_piece};
-use sc_base::Failure;
+use sc_base::{Failure, Unfit};
 use sc_expr::{ExprFault, read_value};
-use sc_types::{PairList, PlainName, Sequence, Value, is_plain_name};
+use sc_types::{PairList, PlainName, Sequence, Value};
 use std::alloc::Global;
 
 /// The pairs of a `post`; `BadValue` exactly where the text lists none.
@@ -49,6 +48,7 @@ fn place_of(text: &[u8], byte: u8) -> Option<usize>
     text.iter().position(|b| *b == byte)
 }
 
+#[tactic(auto, using(sc_base::proofs::NameTests::plain_tests))]
 fn read_named(
     alloc: Global,
     name: &[u8],
@@ -58,11 +58,20 @@ fn read_named(
     ensures fault { (cause : Cause) → result ≡ Err (Failure.Fault cause)
         → (cause ≡ Cause.BadValue) × (named name.now (literal_value literal.now) ≡ None) }
 {
-    if !is_plain_name(name) {
-        return Err(Failure::Fault(Cause::BadValue));
+    match PlainName::of(alloc, name) {
+        Ok(name) => Ok((name, read_literal(alloc, literal)?)),
+        Err(Unfit::Form) => Err(Failure::Fault(Cause::BadValue)),
+        Err(Unfit::NoMemory) => Err(Failure::NoMemory),
     }
-    match read_value(alloc, literal) {
-        Ok(value) => Ok((plain_name(alloc, name)?, value)),
+}
+
+fn read_literal(alloc: Global, text: &[u8]) -> Result<Value, Failure<Cause>>
+    ensures ok { IfOk result (λ v. literal_value text.now ≡ Some v) }
+    ensures fault { (cause : Cause) → result ≡ Err (Failure.Fault cause)
+        → (cause ≡ Cause.BadValue) × (literal_value text.now ≡ None) }
+{
+    match read_value(alloc, text) {
+        Ok(value) => Ok(value),
         Err(ExprFault::NotExpr) => Err(Failure::Fault(Cause::BadValue)),
         Err(ExprFault::NoMemory) => Err(Failure::NoMemory),
     }

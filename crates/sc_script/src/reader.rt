@@ -1,6 +1,7 @@
 ghost use Rattle.std.specs.Prelude.{◌≡◌, ◌+◌, ◌<◌, [], ◌∷◌, ◌++◌, List, ℕ, suc, Ok, Err, IfOk, OnOk, length};
 ghost use Rattle.sc_script.specs.Joined.{joins, joined};
 ghost use Rattle.sc_script.specs.Meanings.{meaning};
+ghost use Rattle.sc_script.specs.OneWay.{IsCutInOneWay};
 ghost use Rattle.sc_script.specs.Scripts.{Spelled, empty_script, line_script, script_from, script_of};
 ghost use Rattle.sc_script.specs.declared.fault.ScriptFault.{ScriptFault};
 
@@ -13,9 +14,11 @@ use sc_types::{CLIENT_LIMIT, Command, NoMemory, SCRIPT_TEXT_LIMIT, Sequence};
 use std::alloc::Global;
 
 /// Reads a script, of at most 67,108,864 bytes of text. The fault is that of the first faulty line.
+#[tactic(auto, using(crate::proofs::CutInOneWay::cut_in_one_way))]
 pub fn read_script(alloc: Global, text: &[u8]) -> Result<Script, ScriptRefusal>
     ensures script { IfOk result (λ script. script_of text.now ≡ Ok script) }
     ensures fault { (f : ScriptFault) → result ≡ Err (Failure.Fault f) → script_of text.now ≡ Err f }
+    ensures pairs { IsCutInOneWay }
 {
     if text.len() > SCRIPT_TEXT_LIMIT {
         return Err(fault(0, Cause::TooLarge));

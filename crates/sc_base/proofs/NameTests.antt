@@ -31,8 +31,6 @@ not_true false n = refl
 pub no_word : (text : List ℕ) → ¬ IsWord text → is_word text ≡ false
 no_word text n = not_true (is_word text) (λ e. n (word_of_test text e))
 
-pub ruleset word_tests = (word_test, no_word)
-
 -- a plain name passes the test
 pub plain_test : (text : List ℕ) → IsPlainName text → is_plain_name text ≡ true
 plain_test text p = and_from _ _ (and_from _ _ (and_from _ _ (le-leb (length text) 128 p.short) p.first) p.each)
@@ -45,3 +43,11 @@ plain_of_test text e =
     let form = and_parts _ _ all.0 in
     let some = and_parts _ _ form.0 in
     record { short = leb-true (length text) 128 some.0; first = some.1; each = form.1; no_keyword = all.1 }
+
+-- what is no plain name fails the test
+pub no_plain : (text : List ℕ) → ¬ IsPlainName text → is_plain_name text ≡ false
+no_plain text n = not_true (is_plain_name text) (λ e. n (plain_of_test text e))
+
+pub ruleset word_tests = (word_test, no_word)
+
+pub ruleset plain_tests = (plain_test, no_plain)
