@@ -33,26 +33,12 @@ use Rattle.sc_core.specs.declared.change.Change.{Change}
 use Rattle.sc_core.specs.declared.change.Change.TheVariants.{Delay, Queue, Tell, Undo}
 use Rattle.sc_core.specs.declared.draft.Draft.{Draft}
 use Rattle.sc_core.proofs.AimLemmas.{carried_is_sent, outlines_queue_at, outlines_tell, same_aim, set_here}
+use Rattle.sc_core.proofs.AppendLemmas.{can_more, installed_more, targets_more}
 use Rattle.sc_core.proofs.GivenLemmas.{all_push}
 use Rattle.sc_core.proofs.SetLemmas.{map_long}
 use Rattle.sc_core.proofs.SoundLemmas.{next_numbered}
 
 -- ---- one change more
-
-pub installed_more : {P : Type 0} (cs : List (Change P)) (c : Change P) (g : HostImage)
-    → installed (cs ++ c ∷ []) g ≡ apply c (installed cs g)
-installed_more [] c g = refl
-installed_more (x ∷ xs) c g = installed_more xs c (apply x g)
-
-pub can_more : {P : Type 0} (cs : List (Change P)) (c : Change P) (g : HostImage) → CanApplyAll g cs
-    → CanApply (installed cs g) c → CanApplyAll g (cs ++ c ∷ [])
-can_more [] c g can one = (one, tt)
-can_more (x ∷ xs) c g can one = (can.0, can_more xs c (apply x g) can.1 one)
-
-pub targets_more : {P : Type 0} (n : ℕ) (cs : List (Change P)) (c : Change P) → HaveTargets n cs → HasTarget n c
-    → HaveTargets n (cs ++ c ∷ [])
-targets_more n [] c targets one = (one, tt)
-targets_more n (x ∷ xs) c targets one = (targets.0, targets_more n xs c targets.1 one)
 
 -- a session at a place is one of as many as there were
 pub within_outlines : (g h : HostImage) → outlines h ≡ outlines g → length h.sessions ≡ length g.sessions
@@ -87,13 +73,13 @@ pub one_drafted : {P : Type 0} (name : List ℕ) (g : HostImage) (old new : Draf
     → Drafts name g old new d told
 one_drafted {P = P} name g old new c d told draft changes sent events delayed is does =
     let reaches : so_far g new ≡ d.host =
-    ap (λ (cs : List (Change P)). installed cs g) changes ∙ installed_more old.changes c g ∙ does.makes in
+    ap (λ (cs : List (Change P)). installed cs g) changes ∙ installed_more old.changes (c ∷ []) g ∙ does.makes in
     let long = within_outlines g (so_far g old) draft.follows.outlines in
     record {
       draft = record {
-        can = subst (CanApplyAll g) (sym changes) (can_more old.changes c g draft.can does.can);
+        can = subst (CanApplyAll g) (sym changes) (can_more old.changes (c ∷ []) g draft.can (does.can, tt));
         targets = subst (HaveTargets (length g.sessions)) (sym changes)
-            (targets_more (length g.sessions) old.changes c draft.targets (subst (λ n. HasTarget n c) long does.target));
+            (targets_more old.changes (c ∷ []) (length g.sessions) draft.targets (subst (λ n. HasTarget n c) long does.target, tt));
         of_step = subst (AllByRecursion (IsOfStep name)) (sym changes)
             (all_push (IsOfStep name) old.changes c draft.of_step does.of_step);
         events = events ∙ ap (λ (k : HostImage). k.events) (sym reaches);

@@ -28,23 +28,9 @@ use Rattle.sc_core.specs.declared.change.Change.TheVariants.{Advance, Count, Del
 use Rattle.sc_core.specs.declared.draft.Draft.{Draft}
 use Rattle.sc_core.specs.declared.prepared.Prepared.{Prepared}
 use Rattle.sc_core.proofs.AimLemmas.{set_here}
+use Rattle.sc_core.proofs.AppendLemmas.{can_more, installed_more, targets_more}
 use Rattle.sc_core.proofs.DraftLemmas.{put_long, within_outlines}
 use Rattle.sc_core.proofs.MoveLemmas.{commands_moved, end_moves}
-
--- ---- several changes more
-
-installed_append : {P : Type 0} (cs ds : List (Change P)) (g : HostImage) → installed (cs ++ ds) g ≡ installed ds (installed cs g)
-installed_append [] ds g = refl
-installed_append (c ∷ cs) ds g = installed_append cs ds (apply c g)
-
-can_append : {P : Type 0} (cs ds : List (Change P)) (g : HostImage) → CanApplyAll g cs → CanApplyAll (installed cs g) ds
-    → CanApplyAll g (cs ++ ds)
-can_append [] ds g can more = more
-can_append (c ∷ cs) ds g can more = (can.0, can_append cs ds (apply c g) can.1 more)
-
-targets_append : {P : Type 0} (n : ℕ) (cs ds : List (Change P)) → HaveTargets n cs → HaveTargets n ds → HaveTargets n (cs ++ ds)
-targets_append n [] ds targets more = more
-targets_append n (c ∷ cs) ds targets more = (targets.0, targets_append n cs ds targets.1 more)
 
 -- ---- the state after the turn is put in
 
@@ -170,7 +156,7 @@ step_prepared {P = P} g place s cue t d p there named commands drafted changes r
     let h = so_far b d in
     let put : installed front g ≡ b = put_installed P g place s cue t there in
     let reached : installed (step_changes place cue t.after d.changes) g ≡ installed back h =
-    installed_append front (d.changes ++ back) g ∙ ap (installed (d.changes ++ back)) put ∙ installed_append d.changes back b in
+    installed_more front (d.changes ++ back) g ∙ ap (installed (d.changes ++ back)) put ∙ installed_more d.changes back b in
     let long : length h.sessions ≡ length g.sessions =
     within_outlines b h drafted.draft.follows.outlines ∙ length-set g.sessions place (put_in s cue t) in
     let within = slice_get_within g.sessions place s there in
@@ -184,12 +170,12 @@ step_prepared {P = P} g place s cue t d p there named commands drafted changes r
       logs = logs;
       sent = sent ∙ drafted.sent;
       can = subst (CanApplyAll g) (sym changes)
-          (can_append front (d.changes ++ back) g (put_can P g place s cue t.after there named)
+          (can_more front (d.changes ++ back) g (put_can P g place s cue t.after there named)
           (subst (λ (k : HostImage). CanApplyAll k (d.changes ++ back)) (sym put)
-          (can_append d.changes back b drafted.draft.can last)));
+          (can_more d.changes back b drafted.draft.can last)));
       targets = subst (HaveTargets (length g.sessions)) (sym changes)
-          (targets_append (length g.sessions) front (d.changes ++ back) (put_targets P (length g.sessions) place cue t.after)
-          (targets_append (length g.sessions) d.changes back
+          (targets_more front (d.changes ++ back) (length g.sessions) (put_targets P (length g.sessions) place cue t.after)
+          (targets_more d.changes back (length g.sessions)
           (subst (λ n. HaveTargets n d.changes) (length-set g.sessions place (put_in s cue t)) drafted.draft.targets)
           (tt, (tt, tt))));
     }

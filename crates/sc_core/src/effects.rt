@@ -4,7 +4,7 @@ ghost use Rattle.sc_core.specs.Bodies.{Agrees, image, session_image};
 ghost use Rattle.sc_core.specs.Counting.{count_after};
 ghost use Rattle.sc_core.specs.Deliveries.{delay_send, deliver, deliver_of, send_now, undo, unreachable};
 ghost use Rattle.sc_core.specs.Drafts.{Drafts, IsDraft, IsSender, Notes, so_far};
-ghost use Rattle.sc_core.specs.Hosts.{is_live, is_running};
+ghost use Rattle.sc_core.specs.Hosts.{is_live};
 ghost use Rattle.sc_core.specs.declared.aims.Aim.TheVariants as aim;
 ghost use Rattle.sc_types.specs.Sends.{is_send};
 ghost use Rattle.sc_types.specs.declared.event.Event.{Event};
@@ -17,16 +17,10 @@ use crate::body::Body;
 use crate::change::Change;
 use crate::draft::Draft;
 use crate::failures::communication_error;
-use crate::session::is_live;
+use crate::session::{is_live, is_running};
 use sc_base::{NoMemory, Plain, SmallBytes, Word};
 use sc_types::{Delivery, Effect, Event, InvokerImage, Phase, SessionState, TimerImage, To};
 use std::alloc::Global;
-
-fn is_running(phase: &Phase) -> bool
-    ensures { result ≡ is_running phase.now }
-{
-    matches!(phase, Phase::Running)
-}
 
 /// Whether a session in this phase may delay a send, when so many were delayed before.
 fn may_delay(phase: &Phase, delayed: u64) -> bool

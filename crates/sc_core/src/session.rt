@@ -1,6 +1,6 @@
 ghost use Rattle.std.specs.Prelude.{◌≡◌, ◌++◌};
 ghost use Rattle.sc_core.specs.Cues.{is_ready};
-ghost use Rattle.sc_core.specs.Hosts.{is_live};
+ghost use Rattle.sc_core.specs.Hosts.{is_live, is_running};
 ghost use Rattle.sc_core.specs.Bodies.{session_image};
 
 use sc_rooms::RoomyQueue;
@@ -35,6 +35,12 @@ pub(crate) fn is_live(phase: &Phase) -> bool
     ensures { result ≡ is_live phase.now }
 {
     !matches!(phase, Phase::Ended(_))
+}
+
+pub(crate) fn is_running(phase: &Phase) -> bool
+    ensures { result ≡ is_running phase.now }
+{
+    matches!(phase, Phase::Running)
 }
 
 /// Whether something waits for a session that runs.

@@ -2,7 +2,6 @@ ghost use Rattle.std.specs.Prelude.{◌≡◌, ◌+◌, ◌^◌, ◌<◌, ◌≤
 ghost use Rattle.sc_core.specs.Bodies.{Agrees, image};
 ghost use Rattle.sc_core.specs.Commands.{advance, tick};
 ghost use Rattle.sc_core.specs.Deliveries.{is_due};
-ghost use Rattle.sc_core.specs.Hosts.{is_running};
 ghost use Rattle.sc_core.specs.Preparing.{InstallNone, Prepares};
 ghost use Rattle.sc_core.specs.Ticking.{Adds, fired, fired_at, fired_failed, fired_lost};
 ghost use Rattle.sc_core.specs.declared.session.Session.{Session};
@@ -13,6 +12,7 @@ use crate::body::Body;
 use crate::change::Change;
 use crate::failures::communication_error;
 use crate::prepared::Prepared;
+use crate::session::is_running;
 use sc_base::{NoMemory, Plain, Queue, Sequence, SmallBytes, Word};
 use sc_types::{CLOCK_LIMIT, Delivery, InvokerImage, Phase, Refusal, Reply, TimerImage};
 use std::alloc::Global;
@@ -36,12 +36,6 @@ fn later(clock: u64, ticks: u64) -> Option<u64>
         return None;
     }
     Some(now)
-}
-
-fn is_running(phase: &Phase) -> bool
-    ensures { result ≡ is_running phase.now }
-{
-    matches!(phase, Phase::Running)
 }
 
 impl<P: Drop> Draft<P> {
