@@ -1,7 +1,8 @@
 #!/bin/sh
 # What it costs to put an event into a queue and take it out again, in a queue of 100,000 events against one of 1,000;
-# and what a copy of an event costs whose name has 13, 22 or 40 bytes. Where an event is taken in constant time, the
-# ratio is that of the memory's speed, 1 to 5; where each event behind it moves, it is near 100.
+# and what a copy of an event costs whose name has 13, 22 or 40 bytes, against one whose texts are each in memory of
+# their own. Where an event is taken in constant time, the first ratio is that of the memory's speed, 1 to 5; where each
+# event behind it moves, it is near 100.
 # Run `rt run` in crates/sc_leaf_bench first.
 # The time of a round is that of many rounds less that of one, over the difference, each the least of five runs.
 cd "$(dirname "$0")/.." || exit 1
@@ -26,5 +27,8 @@ small=$(each queue 1000 5001 1000)
 large=$(each queue 100000 51 100000)
 echo "queue: $small ps an event at 1000 events, $large ps at 100000, ratio $(echo "scale=2; $large / $small" | bc)"
 for size in 13 22 40; do
-    echo "copies: $(each copies $size 3000001 1) ps a copy with a name of $size bytes"
+    copy=$(each copies $size 3000001 1)
+    owned=$(each owned_copies $size 3000001 1)
+    echo "copies: $copy ps a copy with a name of $size bytes, $owned ps with owned texts," \
+        "ratio $(echo "scale=2; $copy / $owned" | bc)"
 done

@@ -1,4 +1,4 @@
-use sc_base::{Name, Plain, Queue, SmallBytes};
+use sc_base::{Bytes, Name, Plain, Queue, SmallBytes};
 use sc_types::{Data, Event, Kind};
 use std::alloc::Global;
 
@@ -50,6 +50,52 @@ pub fn copies(alloc: Global, size: u32, rounds: u32) -> Option<u64> {
         let place = places.get_mut(round as usize % 64)?;
         *place = event.copy().ok()?;
         sum = sum.wrapping_add(place.name.bytes().len() as u64);
+    }
+    Some(sum)
+}
+
+// An event whose texts are each in memory of their own, to compare with.
+#[derive(Clone, Drop)]
+struct OwnedEvent {
+    number: u128,
+    name: Bytes,
+    kind: Kind,
+    sendid: Bytes,
+    origin: Bytes,
+    origintype: Bytes,
+    invokeid: Bytes,
+    payload: Data,
+}
+
+fn owned_event(alloc: Global, name: &[u8]) -> Option<OwnedEvent> {
+    Some(OwnedEvent {
+        number: 1,
+        name: Bytes::from_slice(alloc, name).ok()?,
+        kind: Kind::External,
+        sendid: Bytes::new(alloc),
+        origin: Bytes::new(alloc),
+        origintype: Bytes::new(alloc),
+        invokeid: Bytes::new(alloc),
+        payload: Data::Absent,
+    })
+}
+
+// The same work as that of `copies`, for events whose texts are each in memory of their own.
+pub fn owned_copies(alloc: Global, size: u32, rounds: u32) -> Option<u64> {
+    let mut name = Vec::new(alloc);
+    for _ in 0..size {
+        name.push(b'e').ok()?;
+    }
+    let event = owned_event(alloc, &name)?;
+    let mut places = Vec::new(alloc);
+    for _ in 0..64 {
+        places.push(event.clone().ok()?).ok()?;
+    }
+    let mut sum = 0u64;
+    for round in 0..rounds {
+        let place = places.get_mut(round as usize % 64)?;
+        *place = event.clone().ok()?;
+        sum = sum.wrapping_add(place.name.len() as u64);
     }
     Some(sum)
 }

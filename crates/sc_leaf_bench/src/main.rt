@@ -21,6 +21,7 @@ fn done(alloc: Global, work: &str, size: u32, rounds: u32) -> Option<u64> {
         "expressions" => expressions::work(alloc, size, rounds),
         "queue" => events::queue(alloc, size, rounds),
         "copies" => events::copies(alloc, size, rounds),
+        "owned_copies" => events::owned_copies(alloc, size, rounds),
         _ => None,
     }
 }

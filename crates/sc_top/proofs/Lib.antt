@@ -1,12 +1,8 @@
-pub mod DeliverLemmas
-pub mod FitLemmas
 pub mod InvokingLemmas
-pub mod PendingLemmas
 pub mod Promise
+pub mod ReportLemmas
 pub mod RunLemmas
 pub mod RunsLemmas
 pub mod SayingLemmas
 pub mod ServedLemmas
 pub mod StateCountLemmas
-pub mod StepLemmas
-pub mod WeightLemmas

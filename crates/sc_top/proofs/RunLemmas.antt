@@ -10,9 +10,8 @@ use Rattle.sc_core.specs.Cues.{ready}
 use Rattle.sc_core.specs.Histories.{replay}
 use Rattle.sc_core.specs.Hosts.{empty_host}
 use Rattle.sc_top.specs.Run.{Made, makes, of_ready, next, Enters, Continues, IsRun}
-use Rattle.sc_top.specs.Held.{IsHeld}
 use Rattle.sc_top.specs.Running.{Makes, Goes, HasStepped, IsUnderWay, HasRun}
-use Rattle.sc_top.specs.declared.host.Host.{Host}
+use Rattle.sc_core.specs.HostStates.{HostOf}
 use Rattle.sc_top.specs.declared.run.Run.{Run}
 
 -- replaying two histories in a row is replaying both as one
@@ -21,8 +20,8 @@ replay-append g [] fs = refl
 replay-append g (e ∷ es) fs = replay-append (answer g e.command).host es fs
 
 -- a run stays where it is
-pub goes_nowhere : (r : Run) (cs : List Made) → IsHeld r.host → Goes r r cs cs
-goes_nowhere r cs held = record { added = []; history = sym (append-nil r.history); host = refl; held = held; runs = λ rest h. h }
+pub goes_nowhere : (r : Run) (cs : List Made) → Goes r r cs cs
+goes_nowhere r cs = record { added = []; history = sym (append-nil r.history); host = refl; runs = λ rest h. h }
 
 -- a run goes on for two parts
 pub goes_further : (old mid new : Run) (before between after : List Made) → Goes old mid before between → Goes mid new between after → Goes old new before after
@@ -30,7 +29,6 @@ goes_further old mid new before between after a b = record {
   added = a.added ++ b.added;
   history = b.history ∙ ap (λ h. h ++ b.added) a.history ∙ append_assoc old.history a.added b.added;
   host = b.host ∙ ap (λ g. replay g b.added) a.host ∙ sym (replay-append old.host.image a.added b.added);
-  held = b.held;
   runs = λ rest h. subst (λ es. IsRun old.host.image before old.left es) (sym (append_assoc a.added b.added rest)) (a.runs (b.added ++ rest) (b.runs rest h));
 }
 
@@ -48,14 +46,13 @@ makes_on g c cs left e rest is_next enters h =
 pub goes_by_step : (old mid new : Run) (name : List ℕ) (cs : List Made) → mid.host ≡ old.host → mid.history ≡ old.history → old.left ≡ suc mid.left
     → ready old.host.image ≡ Some name → Makes mid new Worker (Step name) → Goes old new cs cs
 goes_by_step old mid new name cs host history left is_ready m =
-    let image = ap (λ (h : Host). h.image) host in
+    let image = ap (λ (h : HostOf). h.image) host in
     let enters = subst (λ g. Enters g Worker (Step name) m.entry) image m.enters in
     let after = m.host ∙ ap (λ g. (answer g m.entry.command).host) image in
     record {
       added = m.entry ∷ [];
       history = m.history ∙ ap (λ h. h ++ m.entry ∷ []) history;
       host = after;
-      held = m.held;
       runs = λ rest h. subst (λ n. IsRun old.host.image cs n (m.entry ∷ rest)) (sym left)
           (steps_on old.host.image cs mid.left m.entry rest name is_ready enters
           (subst (λ n. IsRun (answer old.host.image m.entry.command).host cs n rest) m.left (subst (λ g. IsRun g cs new.left rest) after h)));
@@ -68,7 +65,6 @@ goes_by_command old new n c cs stepped m = record {
   added = m.entry ∷ [];
   history = m.history;
   host = m.host;
-  held = m.held;
   runs = λ rest h. makes_on old.host.image (n, c) cs old.left m.entry rest (stepped ((n, c) ∷ cs)) m.enters
       (subst (λ k. IsRun (answer old.host.image m.entry.command).host cs k rest) m.left (subst (λ g. IsRun g cs new.left rest) m.host h));
 }
@@ -76,7 +72,6 @@ goes_by_command old new n c cs stepped m = record {
 -- what is under way goes on
 pub underway_goes : (old new : Run) (budget : ℕ) (all before after : List Made) → IsUnderWay old budget all before → Goes old new before after → IsUnderWay new budget all after
 underway_goes old new budget all before after u g = record {
-  held = g.held;
   host = g.host ∙ ap (λ h. replay h g.added) u.host ∙ sym (replay-append empty_host old.history g.added) ∙ ap (replay empty_host) (sym g.history);
   runs = λ rest h. subst (λ es. IsRun empty_host all budget es) (sym (append_assoc old.history g.added rest) ∙ ap (λ h. h ++ rest) (sym g.history))
       (u.runs (g.added ++ rest) (g.runs rest h));
@@ -85,16 +80,14 @@ underway_goes old new budget all before after u g = record {
 -- with no command left, and no step to take, the run is done
 pub underway_ends : (r : Run) (budget : ℕ) (all : List Made) → IsUnderWay r budget all [] → HasStepped r → HasRun r budget all
 underway_ends r budget all u stepped = record {
-  held = u.held;
   host = u.host;
   run = subst (λ es. IsRun empty_host all budget es) (append-nil r.history) (u.runs [] (stepped []));
 }
 
 -- a fresh host has its whole run before it
-pub underway_begins : (r : Run) (budget : ℕ) (all : List Made) → r.host.image ≡ empty_host → IsHeld r.host → r.history ≡ [] → r.left ≡ budget
+pub underway_begins : (r : Run) (budget : ℕ) (all : List Made) → r.host.image ≡ empty_host → r.history ≡ [] → r.left ≡ budget
     → IsUnderWay r budget all all
-underway_begins r budget all image held none left = record {
-  held = held;
+underway_begins r budget all image none left = record {
   host = image ∙ ap (replay empty_host) (sym none);
   runs = λ rest h. subst (λ es. IsRun empty_host all budget (es ++ rest)) (sym none)
       (subst (λ n. IsRun empty_host all n rest) left (subst (λ g. IsRun g all r.left rest) image h));

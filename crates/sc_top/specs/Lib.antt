@@ -1,5 +1,4 @@
 pub mod Asked
-pub mod Held
 pub mod InvokingCharts
 pub mod Lines
 pub mod Promise

@@ -22,6 +22,7 @@ use Rattle.sc_types.specs.declared.session.How.{How}
 use Rattle.sc_types.specs.declared.session.How.TheVariants as how
 use Rattle.sc_types.specs.declared.session.Phase.{Phase}
 use Rattle.sc_types.specs.declared.session.Phase.TheVariants as phase
+use Rattle.sc_types.specs.declared.session.SessionState.{SessionState}
 use Rattle.sc_types.specs.declared.value.Value.{Value}
 use Rattle.sc_types.specs.Values.{text_literal, value_text}
 use Rattle.sc_core.specs.Hosts.{chart_named}
@@ -117,18 +118,23 @@ state_text c s = codes " " ++ unwrap_or (option_and_then id_of (node_of c s)) (c
 abbrev pub datum_text : List ℕ × Option Value → List ℕ
 datum_text d = line (codes ". " ++ d.0 ++ option_map_or (λ v. codes "=" ++ value_text v) d.1 [])
 
-abbrev pub live_text : HostImage → SessionImage → List ℕ
-live_text g s = line (codes "live in" ++ flat_map (state_text (chart_named g s.state.chart)) s.state.configuration)
-    ++ flat_map datum_text s.state.values ++ line (codes "# " ++ decimal (length s.queued))
+-- a session of this chart and state, with so many events in its external queue
+
+abbrev pub live_text : Chart → SessionState → ℕ → List ℕ
+live_text c s queued = line (codes "live in" ++ flat_map (state_text c) s.configuration)
+    ++ flat_map datum_text s.values ++ line (codes "# " ++ decimal queued)
 
 -- a session that has ended is one line; a live one has its active states, its data and the length of its queue
-abbrev pub phase_text : HostImage → SessionImage → Phase → List ℕ
-phase_text g s (phase.Ended how) = line (how_text how)
-phase_text g s phase.Fresh = live_text g s
-phase_text g s phase.Running = live_text g s
+abbrev pub phase_text : Chart → SessionState → ℕ → Phase → List ℕ
+phase_text c s queued (phase.Ended how) = line (how_text how)
+phase_text c s queued phase.Fresh = live_text c s queued
+phase_text c s queued phase.Running = live_text c s queued
+
+abbrev pub state_line : Chart → SessionState → ℕ → List ℕ
+state_line c s queued = s.session ++ codes " " ++ s.chart ++ codes " " ++ phase_text c s queued s.phase
 
 abbrev pub session_text : HostImage → SessionImage → List ℕ
-session_text g s = s.state.session ++ codes " " ++ s.state.chart ++ codes " " ++ phase_text g s s.state.phase
+session_text g s = state_line (chart_named g s.state.chart) s.state (length s.queued)
 
 -- the word for how a run ends, by the session that is ready then
 abbrev pub end_word : Option (List ℕ) → List ℕ

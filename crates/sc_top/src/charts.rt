@@ -1,25 +1,12 @@
-ghost use Rattle.std.specs.Prelude.{◌≡◌, Err, IfOk, Ok};
+ghost use Rattle.std.specs.Prelude.{◌≡◌, IfOk};
 ghost use Rattle.std.specs.List.{list_any};
-ghost use Rattle.sc_types.specs.declared.chart.ChartFault.{ChartFault};
 ghost use Rattle.sc_law.specs.LegalCharts.{legal_chart_of};
 ghost use Rattle.sc_top.specs.InvokingCharts.{has_invoke, invokes, is_invoke, is_invoking, script_invokes};
 
-use sc_chart_json::read_chart;
+use sc_core::read_legal_chart;
 use sc_script::Script;
 use sc_types::{ChartRefusal, Command, NoMemory, Node, Tag};
-use sc_valid::{LegalChart, validate};
 use std::alloc::Global;
-
-/// The legal chart that a text spells, or the text's first fault.
-pub(crate) fn read_legal_chart(alloc: Global, text: &[u8]) -> Result<LegalChart, ChartRefusal>
-    ensures chart { IfOk result (λ c. legal_chart_of text.now ≡ Ok c) }
-    ensures fault { (f : ChartFault) → result ≡ Err (ChartRefusal.Fault f) → legal_chart_of text.now ≡ Err f }
-{
-    match read_chart(alloc, text) {
-        Ok(chart) => validate(alloc, chart),
-        Err(refusal) => Err(refusal),
-    }
-}
 
 /// Whether a script installs a legal chart with an `<invoke>`.
 pub(crate) fn script_invokes(alloc: Global, script: &Script) -> Result<bool, NoMemory>

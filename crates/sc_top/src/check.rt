@@ -7,11 +7,11 @@ ghost use Rattle.sc_top.specs.Lines.{line};
 ghost use Rattle.sc_top.specs.Report.{fault_text};
 ghost use Rattle.sc_top.specs.Sayings.{status_of, text_of, check_status, check_text};
 
-use crate::charts::read_legal_chart;
 use crate::report::lines::put_counted;
 use crate::report::replies::put_fault;
 use crate::saying::Saying;
 use sc_base::{Bytes, NoMemory, TextWriter};
+use sc_core::read_legal_chart;
 use sc_types::{Chart, ChartFault, ChartRefusal, Node, Tag};
 use std::alloc::Global;
 

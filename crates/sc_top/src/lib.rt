@@ -4,7 +4,6 @@
 
 mod charts;
 mod check;
-mod host;
 mod program;
 mod report;
 mod run;

@@ -135,7 +135,7 @@ fn report_run(alloc: Global, budget: u64, script: Script) -> Result<Saying, NoMe
 {
     let run = run_script(alloc, script, budget)?;
     let history = run.history.slice();
-    match run.host.ready()? {
+    match run.host.ready_session() {
         None => Ok(Saying::Done(report_of(alloc, &run.host, history, 0, b"quiet")?)),
         Some(_) => Ok(Saying::Spent(report_of(alloc, &run.host, history, 0, b"budget")?)),
     }

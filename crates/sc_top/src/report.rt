@@ -1,40 +1,39 @@
 ghost use Rattle.std.specs.Prelude.{◌≡◌, ◌++◌, OnOk, IfOk, decimal, length, codes};
 ghost use Rattle.sc_top.specs.Lines.{line};
 ghost use Rattle.sc_top.specs.Report.{report, script_fault_text};
-ghost use Rattle.sc_top.specs.Held.{IsHeld};
 
 mod entries;
 pub(crate) mod lines;
 pub(crate) mod replies;
 mod sessions;
 
-use crate::host::Host;
 use crate::report::entries::put_entries;
 use crate::report::lines::put_counted;
 use crate::report::sessions::put_sessions;
 use sc_base::{Bytes, NoMemory, TextWriter};
+use sc_core::HostState;
 use sc_script::ScriptFault;
-use sc_types::{Entry, HostImage};
+use sc_turn::Compiled;
+use sc_types::Entry;
 use std::alloc::Global;
 
 /// The report of a run: how many commands were journaled at the opening, what was done since, the host at the
 /// end, and the word for how the run ended.
 pub(crate) fn report_of(
     alloc: Global,
-    host: &Host,
+    host: &HostState<Compiled>,
     history: &[Entry],
     opened: u64,
     end: &[u8],
 ) -> Result<Bytes, NoMemory>
-    requires { IsHeld host.now }
     ensures { IfOk result (λ text. text ≡ report opened host.now.image history.now end.now) }
 {
     let mut out = TextWriter::new(alloc);
     put_counted(&mut out, b"open ", u128::from(opened))?;
     put_entries(&mut out, history)?;
-    put_counted(&mut out, b"sessions ", host.image.sessions.len() as u128)?;
+    put_counted(&mut out, b"sessions ", host.count() as u128)?;
     put_sessions(&mut out, host)?;
-    put_clock(&mut out, &host.image)?;
+    put_clock(&mut out, host)?;
     out.text("end ")?;
     out.bytes(end)?;
     out.end_line()?;
@@ -54,15 +53,15 @@ pub(crate) fn script_fault_line(alloc: Global, fault: &ScriptFault) -> Result<By
     Ok(out.into_bytes())
 }
 
-fn put_clock(out: &mut TextWriter, image: &HostImage) -> Result<(), NoMemory>
+fn put_clock(out: &mut TextWriter, host: &HostState<Compiled>) -> Result<(), NoMemory>
     ensures { OnOk result (out.new
         ≡ out.old
-        ++ line (codes "clock " ++ decimal image.now.clock
-        ++ codes " timers " ++ decimal (length image.now.timers))) }
+        ++ line (codes "clock " ++ decimal host.now.image.clock
+        ++ codes " timers " ++ decimal (length host.now.image.timers))) }
 {
     out.text("clock ")?;
-    out.number(u128::from(image.clock))?;
+    out.number(u128::from(host.clock()))?;
     out.text(" timers ")?;
-    out.number(image.timers.len() as u128)?;
+    out.number(host.timers() as u128)?;
     out.end_line()
 }

@@ -1,4 +1,5 @@
 pub mod Begins
+pub mod Crossing
 pub mod FitsLaw
 pub mod IdLists
 pub mod KidLemmas

@@ -1,17 +1,16 @@
-ghost use Rattle.std.specs.Prelude.{◌≡◌, ◌++◌, IsTrue, OnOk, codes};
+ghost use Rattle.std.specs.Prelude.{◌≡◌, ◌<◌, ◌++◌, OnOk, Some, codes, length, slice_get};
 ghost use Rattle.std.specs.List.{flat_map};
-ghost use Rattle.sc_core.specs.Hosts.{chart_named, has_chart};
+ghost use Rattle.sc_types.specs.declared.host.SessionImage.{SessionImage};
 ghost use Rattle.sc_top.specs.Lines.{line};
-ghost use Rattle.sc_top.specs.Report.{state_text, datum_text, live_text, phase_text, session_text};
-ghost use Rattle.sc_top.specs.Held.{IsHeld};
+ghost use Rattle.sc_top.specs.Report.{state_line, state_text, datum_text, live_text, phase_text, session_text};
 
-use crate::host::Host;
 use crate::report::lines::put_counted;
 use crate::report::replies::put_how;
 use sc_base::{NoMemory, PlainName, TextWriter};
+use sc_core::HostState;
 use sc_expr::put_value;
-use sc_turn::Plan;
-use sc_types::{Phase, SessionImage, SessionState, Value};
+use sc_turn::{Compiled, Plan};
+use sc_types::{Phase, SessionState, Value};
 
 /// A state of this chart by its id, or by its number where it has none.
 fn put_state(out: &mut TextWriter, plan: &Plan, state: u32) -> Result<(), NoMemory>
@@ -57,78 +56,80 @@ fn put_data(out: &mut TextWriter, values: &[(PlainName, Option<Value>)]) -> Resu
     Ok(())
 }
 
-/// The active states of a session.
-fn put_states(out: &mut TextWriter, host: &Host, state: &SessionState) -> Result<(), NoMemory>
-    requires held { IsHeld host.now }
-    requires chart { IsTrue (has_chart host.now.image state.now.chart) }
+fn put_active(out: &mut TextWriter, plan: &Plan, state: &SessionState) -> Result<(), NoMemory>
     ensures { OnOk result (out.new
-        ≡ out.old
-        ++ flat_map (state_text (chart_named host.now.image state.now.chart)) state.now.configuration) }
-{
-    match host.plan_named(state.chart.bytes()) {
-        Some(plan) => put_ids(out, plan, state.configuration.slice()),
-        None => unreachable!(),
-    }
-}
-
-fn put_active(out: &mut TextWriter, host: &Host, state: &SessionState) -> Result<(), NoMemory>
-    requires held { IsHeld host.now }
-    requires chart { IsTrue (has_chart host.now.image state.now.chart) }
-    ensures { OnOk result (out.new
-        ≡ out.old
-        ++ line (codes "live in"
-        ++ flat_map (state_text (chart_named host.now.image state.now.chart)) state.now.configuration)) }
+        ≡ out.old ++ line (codes "live in" ++ flat_map (state_text plan.now) state.now.configuration)) }
 {
     out.text("live in")?;
-    put_states(out, host, state)?;
+    put_ids(out, plan, state.configuration.slice())?;
     out.end_line()
 }
 
-fn put_live(out: &mut TextWriter, host: &Host, session: &SessionImage) -> Result<(), NoMemory>
-    requires held { IsHeld host.now }
-    requires chart { IsTrue (has_chart host.now.image session.now.state.chart) }
-    ensures { OnOk result (out.new ≡ out.old ++ live_text host.now.image session.now) }
+fn put_live(
+    out: &mut TextWriter,
+    plan: &Plan,
+    state: &SessionState,
+    queued: usize,
+) -> Result<(), NoMemory>
+    ensures { OnOk result (out.new ≡ out.old ++ live_text plan.now state.now queued) }
 {
-    put_active(out, host, &session.state)?;
-    put_data(out, session.state.values.slice())?;
-    put_counted(out, b"# ", session.queued.len() as u128)
+    put_active(out, plan, state)?;
+    put_data(out, state.values.slice())?;
+    put_counted(out, b"# ", queued as u128)
 }
 
-fn put_phase(out: &mut TextWriter, host: &Host, session: &SessionImage) -> Result<(), NoMemory>
-    requires held { IsHeld host.now }
-    requires chart { IsTrue (has_chart host.now.image session.now.state.chart) }
-    ensures { OnOk result (out.new
-        ≡ out.old ++ phase_text host.now.image session.now session.now.state.phase) }
+fn put_phase(
+    out: &mut TextWriter,
+    plan: &Plan,
+    state: &SessionState,
+    queued: usize,
+) -> Result<(), NoMemory>
+    ensures { OnOk result (out.new ≡ out.old ++ phase_text plan.now state.now queued state.now.phase) }
 {
-    match &session.state.phase {
+    match &state.phase {
         Phase::Ended(how) => {
             put_how(out, how)?;
             out.end_line()
         }
-        Phase::Fresh => put_live(out, host, session),
-        Phase::Running => put_live(out, host, session),
+        Phase::Fresh => put_live(out, plan, state, queued),
+        Phase::Running => put_live(out, plan, state, queued),
     }
 }
 
-fn put_session(out: &mut TextWriter, host: &Host, session: &SessionImage) -> Result<(), NoMemory>
-    requires held { IsHeld host.now }
-    requires chart { IsTrue (has_chart host.now.image session.now.state.chart) }
-    ensures { OnOk result (out.new ≡ out.old ++ session_text host.now.image session.now) }
+fn put_state_line(
+    out: &mut TextWriter,
+    plan: &Plan,
+    state: &SessionState,
+    queued: usize,
+) -> Result<(), NoMemory>
+    ensures { OnOk result (out.new ≡ out.old ++ state_line plan.now state.now queued) }
 {
-    out.bytes(session.state.session.bytes())?;
+    out.bytes(state.session.bytes())?;
     out.text(" ")?;
-    out.bytes(session.state.chart.bytes())?;
+    out.bytes(state.chart.bytes())?;
     out.text(" ")?;
-    put_phase(out, host, session)
+    put_phase(out, plan, state, queued)
 }
 
-pub(crate) fn put_sessions(out: &mut TextWriter, host: &Host) -> Result<(), NoMemory>
-    requires { IsHeld host.now }
+fn put_session(
+    out: &mut TextWriter,
+    host: &HostState<Compiled>,
+    place: usize,
+) -> Result<(), NoMemory>
+    requires within { place < length host.now.image.sessions }
+    ensures { (s : SessionImage) → slice_get host.now.image.sessions place ≡ Some s
+        → OnOk result (out.new ≡ out.old ++ session_text host.now.image s) }
+{
+    put_state_line(out, host.plan(place), host.state(place), host.queued(place))
+}
+
+/// The sessions, in the order in which they were started.
+pub(crate) fn put_sessions(out: &mut TextWriter, host: &HostState<Compiled>) -> Result<(), NoMemory>
     ensures { OnOk result (out.new
         ≡ out.old ++ flat_map (session_text host.now.image) host.now.image.sessions) }
 {
-    for session in host.image.sessions.slice() {
-        put_session(out, host, session)?;
+    for place in 0..host.count() {
+        put_session(out, host, place)?;
     }
     Ok(())
 }

@@ -1,3 +1,4 @@
+use Rattle.sc_turn.proofs.Crossing.{plan_given_send, plan_given_sync}
 use Rattle.std.proofs.Common.{◌≡◌, List, None, Some, ap, ◌∙◌, codes, rules}
 use Rattle.sc_types.specs.declared.history.Entry.{Entry}
 use Rattle.sc_core.specs.Cues.{ready}
@@ -17,6 +18,12 @@ pub returns : goal.returns
 returns c =
     let run = c.in_ok-run.run' in
     let g = run.host.image in
-    let is_ready : ready g ≡ Some c.in-Some.field-0 = search rules in
-    reports_run run c.args.script c.args.budget (Some c.in-Some.field-0) _ c.requires.steps c.in_ok-run.ensures is_ready
+    let is_ready : ready g ≡ Some c.in-Some.field-0.now = search rules in
+    reports_run run c.args.script c.args.budget (Some c.in-Some.field-0.now) _ c.requires.steps c.in_ok-run.ensures is_ready
     (c.in_ok-report_of-in-Some.ensures ∙ ap (λ (h : List Entry). report 0 g h (codes "budget")) c.slice-history.ensures)
+
+pub ready_session-requires-send-E-Plan : goal.ready_session-requires-send-E-Plan
+ready_session-requires-send-E-Plan c κs = plan_given_send _
+
+pub ready_session-requires-sync-E-Plan : goal.ready_session-requires-sync-E-Plan
+ready_session-requires-sync-E-Plan c κs = plan_given_sync _

@@ -4,12 +4,6 @@ use Rattle.sc_top.specs.Running.{Goes}
 use Rattle.sc_top.proofs.RunLemmas.{underway_begins, underway_goes, underway_ends}
 use Rattle.sc_top.proofs.run.run_script.Goals as goal
 
-pub make_all-requires-clause-held : goal.make_all-requires-clause-held
-make_all-requires-clause-held c = (c.in_ok-step_all.ensures.goes []).held
-
-pub make_clients-requires-clause-held : goal.make_clients-requires-clause-held
-make_clients-requires-clause-held c = (c.in_ok-make_all.ensures.goes []).held
-
 pub returns : goal.returns
 returns c =
     let budget = c.args.budget in
@@ -20,7 +14,7 @@ returns c =
     let set_up = c.make_all.new.self in
     let done = c.make_clients.new.self in
     let fresh = c.new-run.ensures in
-    let begun = underway_begins start budget all fresh.image fresh.held fresh.history fresh.left in
+    let begun = underway_begins start budget all fresh.image fresh.history fresh.left in
     let first = underway_goes start stepped budget all all all begun (c.in_ok-step_all.ensures.goes all) in
     let second = underway_goes stepped set_up budget all all later first (c.in_ok-make_all.ensures.goes later) in
     let last = subst (λ cs. Goes set_up done cs []) (append-nil later) (c.in_ok-make_clients.ensures.goes []) in

@@ -1,13 +1,10 @@
-use Rattle.std.proofs.Common.{◌≡◌, List, [], ◌∷◌, ◌++◌, ap, subst}
+use Rattle.std.proofs.Common.{◌≡◌, List, ◌∷◌, ◌++◌, ap, subst}
 use Rattle.std.specs.Vec.Iter.{into_iter_items}
 use Rattle.sc_types.specs.declared.command.Command.{Command}
 use Rattle.sc_top.specs.Run.{Made, of_client}
 use Rattle.sc_top.specs.Running.{Goes}
 use Rattle.sc_top.proofs.RunLemmas.{goes_by_command, goes_further}
 use Rattle.sc_top.proofs.run.Run.make_all.Goals as goal
-
-pub make-requires : goal.make-requires
-make-requires c = record { held = (c.loop-command.invariant.goes []).held }
 
 pub loop-command-preserved : goal.loop-command-preserved
 loop-command-preserved c =

@@ -1,13 +1,10 @@
-use Rattle.std.proofs.Common.{◌≡◌, ℕ, ◌+◌, List, [], ◌∷◌, ◌++◌, append_assoc, ap, sym, subst, ◌∙◌, rules}
+use Rattle.std.proofs.Common.{◌≡◌, ℕ, ◌+◌, List, ◌∷◌, ◌++◌, append_assoc, ap, sym, subst, ◌∙◌, rules}
 use Rattle.std.specs.Vec.Iter.{into_iter_items}
 use Rattle.sc_types.specs.declared.command.Command.{Command}
 use Rattle.sc_top.specs.Run.{Made, of_client, of_clients}
 use Rattle.sc_top.specs.Running.{Goes}
 use Rattle.sc_top.proofs.RunLemmas.{goes_further}
 use Rattle.sc_top.proofs.run.Run.make_clients.Goals as goal
-
-pub make_all-requires-clause-held : goal.make_all-requires-clause-held
-make_all-requires-clause-held c = (c.loop-commands.invariant.goes []).held
 
 pub loop-commands-preserved : goal.loop-commands-preserved
 loop-commands-preserved c =

@@ -1,0 +1,41 @@
+#!/bin/sh
+# What a command costs in a host with 100,000 sessions and as many pending sends, against one with 10 of each; and how
+# much memory a session takes. Run `rt run` in crates/sc_core_bench first.
+# The time of a command is that of many rounds less that of none, over their number, each in processor time and the least
+# of five runs.
+cd "$(dirname "$0")/.." || exit 1
+program=crates/sc_core_bench/out/sc_core_bench
+sessions=100000
+
+millis() { # LINE: the least processor time of five runs
+    for _ in 1 2 3 4 5; do
+        echo "$1" | command time -f '%U %S' "$program" 2>&1 > /dev/null | awk '{ print int(($1 + $2) * 1000) }'
+    done | sort -n | head -n 1
+}
+
+each() { # KIND SESSIONS ROUNDS: nanoseconds a round
+    none=$(millis "nothing $2 $3")
+    some=$(millis "$1 $2 $3")
+    echo $(((some - none) * 1000000 / $3))
+}
+
+compare() { # KIND ROUNDS
+    small=$(each "$1" 10 "$2")
+    large=$(each "$1" $sessions "$2")
+    echo "$1: $small ns with 10 sessions, $large ns with $sessions, ratio $(echo "scale=2; $large / $small" | bc)"
+}
+
+compare post 400000
+compare step 400000
+compare cancel 400000
+compare start 400000
+# Each round of `fire` delays a send and lets one come due.
+compare fire 400000
+
+kilobytes() { # LINE
+    echo "$1" | command time -f %M "$program" 2>&1 > /dev/null
+}
+
+few=$(kilobytes "nothing 10 1")
+many=$(kilobytes "nothing $sessions 1")
+echo "memory: $(((many - few) * 1024 / sessions)) bytes a session with its pending send"

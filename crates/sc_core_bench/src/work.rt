@@ -1,0 +1,71 @@
+use crate::commands::{cancel, install, post, start, step};
+use crate::host::make;
+use sc_base::NoMemory;
+use sc_core::HostState;
+use sc_turn::Compiled;
+use sc_types::Command;
+use std::alloc::Global;
+
+/// Starts a session, lets it step, and waits for a millisecond, so that its send comes due alone.
+fn begin(alloc: Global, host: &mut HostState<Compiled>, session: u32) -> Result<(), NoMemory> {
+    make(host, &start(alloc, session)?)?;
+    make(host, &step(alloc, session)?)?;
+    make(host, &Command::Tick { ticks: 1 })
+}
+
+/// A host with so many sessions, each with one pending send.
+fn filled(alloc: Global, sessions: u32) -> Result<HostState<Compiled>, NoMemory> {
+    let mut host = HostState::new(alloc);
+    make(&mut host, &install(alloc)?)?;
+    for session in 0..sessions {
+        begin(alloc, &mut host, session)?;
+    }
+    Ok(host)
+}
+
+/// Lets a session delay a send, lets that come due alone, and lets the session take it.
+fn fire(alloc: Global, host: &mut HostState<Compiled>, session: u32) -> Result<(), NoMemory> {
+    make(host, &post(alloc, session, b"later")?)?;
+    make(host, &step(alloc, session)?)?;
+    make(host, &Command::Tick { ticks: 1 })?;
+    make(host, &step(alloc, session)?)
+}
+
+/// One round of a kind of command; the session is one of those that were begun.
+fn round(
+    alloc: Global,
+    host: &mut HostState<Compiled>,
+    kind: &str,
+    session: u32,
+    next: u32,
+) -> Result<(), NoMemory> {
+    match kind {
+        "post" => make(host, &post(alloc, session, b"go")?),
+        "step" => {
+            make(host, &post(alloc, session, b"go")?)?;
+            make(host, &step(alloc, session)?)
+        }
+        "fire" => fire(alloc, host, session),
+        "cancel" => make(host, &cancel(alloc, session)?),
+        "start" => make(host, &start(alloc, next)?),
+        _ => Ok(()),
+    }
+}
+
+fn rounds(alloc: Global, kind: &str, sessions: u32, rounds: u32) -> Result<u64, NoMemory> {
+    let mut host = filled(alloc, sessions)?;
+    for number in 0..rounds {
+        let session = if sessions == 0 { 0 } else { number % sessions };
+        let next = sessions.saturating_add(number);
+        round(alloc, &mut host, kind, session, next)?;
+    }
+    Ok(host.commands())
+}
+
+/// Does so many rounds of a kind of command, and answers how many commands were accepted.
+pub fn done(alloc: Global, kind: &str, sessions: u32, count: u32) -> Option<u64> {
+    match rounds(alloc, kind, sessions, count) {
+        Ok(count) => Some(count),
+        Err(NoMemory) => None,
+    }
+}
