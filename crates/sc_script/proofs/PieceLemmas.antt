@@ -1,9 +1,12 @@
 -- Pairs and the spaces between them.
-use Rattle.std.proofs.Common.{◌≡◌, ℕ, suc, ◌+◌, ◌-◌, ◌<◌, ◌≤◌, Bool, true, false, cond, List, [], ◌∷◌, length, take, drop, get_or, drop-cons, refl, ap, sym, ◌∙◌, arith}
+use Rattle.std.proofs.Common.{◌≡◌, ℕ, suc, ◌+◌, ◌-◌, ◌<◌, ◌≤◌, ◌==◌, Bool, true, false, cond, List, [], ◌∷◌, length, take, drop, get_or, drop-cons, refl, ap, sym, ◌∙◌, arith}
+use Rattle.std.proofs.lemmas.Bool.Decides.{nat_tests}
 use Rattle.std.proofs.lemmas.List.{take_rest, take_all, drop_all}
+use Rattle.std.specs.List.{prefix_len}
 use Rattle.sc_types.specs.Descriptors.{grow_first}
+use Rattle.sc_types.specs.Tokens.{is_quote}
 use Rattle.sc_script.specs.Pairs.{is_gap, next_place, start, pieces}
-use Rattle.sc_script.specs.Pieces.{piece_len}
+use Rattle.sc_script.specs.Pieces.{is_inner, piece_len}
 use Rattle.sc_script.specs.declared.pieces.Place.{Place}
 
 -- the first piece of a text is what stands before the first gap
@@ -77,3 +80,38 @@ past_byte place next text i e h g =
 pub at_end : (place : Place) (text : List ℕ) (i : ℕ) → length text ≤ i → piece_len place (drop i text) ≡ 0
 unfolding piece_len
 at_end place text i h = ap (piece_len place) (drop_all i text h)
+
+-- ---- bytes that change nothing
+
+is_no_gap : (b : ℕ) → is_inner b ≡ true → is_gap start b ≡ false
+is_no_gap b h = grind (arith, nat_tests)
+
+opens_none : (b : ℕ) → is_inner b ≡ true → is_quote b ≡ false
+opens_none b h = grind (arith, nat_tests)
+
+opens_no_list : (b : ℕ) → is_inner b ≡ true → b == 91 ≡ false
+opens_no_list b h = grind (arith, nat_tests)
+
+stays : (b : ℕ) → is_inner b ≡ true → next_place start b ≡ start
+stays b h = rw (opens_none b h) (rw (opens_no_list b h) refl)
+
+-- what stands behind inner bytes decides where the piece ends
+pub behind_inner : (text : List ℕ)
+    → piece_len start text ≡ prefix_len is_inner text + piece_len start (drop (prefix_len is_inner text) text)
+unfolding piece_len
+behind_inner [] = refl
+behind_inner (b ∷ rest) = by (is_inner b) refl (behind_inner rest)
+  where
+    by : (v : Bool) → is_inner b ≡ v
+        → piece_len start rest ≡ prefix_len is_inner rest + piece_len start (drop (prefix_len is_inner rest) rest)
+        → cond (is_gap start b) 0 (suc (piece_len (next_place start b) rest))
+        ≡ cond v (1 + prefix_len is_inner rest) 0
+        + piece_len start (drop (cond v (1 + prefix_len is_inner rest) 0) (b ∷ rest))
+    by true e k =
+        let next : 1 + prefix_len is_inner rest ≡ suc (prefix_len is_inner rest) = omega arith in
+        let one : suc (piece_len start rest)
+        ≡ suc (prefix_len is_inner rest) + piece_len start (drop (prefix_len is_inner rest) rest) = omega arith in
+        rw (is_no_gap b e) (rw (stays b e) (rw next one))
+    by false e k = omega arith
+
+pub ruleset past_inner = (behind_inner)

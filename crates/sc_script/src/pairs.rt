@@ -6,7 +6,7 @@ ghost use Rattle.sc_script.specs.Pairs.{named, pair_of, pairs_of};
 
 use crate::fault::Cause;
 use crate::pieces::{count_pieces, cut_piece};
-use sc_base::{Failure, Unfit};
+use sc_base::{Failure, NoMemory, Unfit};
 use sc_expr::{ExprFault, read_value};
 use sc_types::{PairList, PlainName, Sequence, Value};
 use std::alloc::Global;
@@ -17,16 +17,30 @@ pub(crate) fn read_pairs(alloc: Global, text: &[u8]) -> Result<PairList, Failure
     ensures fault { (cause : Cause) → result ≡ Err (Failure.Fault cause)
         → (cause ≡ Cause.BadValue) × (pairs_of text.now ≡ None) }
 {
-    let mut pairs = Sequence::from_vec(Vec::with_capacity(alloc, count_pieces(text))?);
+    let mut pairs = Sequence::new(alloc);
     let mut rest = text;
     while !rest.is_empty() {
         let (piece, behind) = cut_piece(rest);
         if !piece.is_empty() {
+            pairs = with_room(alloc, pairs, behind)?;
             pairs.push(read_pair(alloc, piece)?)?;
         }
         rest = behind;
     }
     Ok(pairs)
+}
+
+/// The same pairs. Before the first one, with just the memory for it and for those of the text behind it, so that none
+/// is moved and none has memory to spare.
+fn with_room(alloc: Global, pairs: PairList, behind: &[u8]) -> Result<PairList, NoMemory>
+    ensures { IfOk result (λ ps. ps ≡ pairs) }
+{
+    if pairs.is_empty() {
+        let count = count_pieces(behind).saturating_add(1);
+        Ok(Sequence::from_vec(Vec::with_capacity(alloc, count)?))
+    } else {
+        Ok(pairs)
+    }
 }
 
 /// The pair that a piece is.

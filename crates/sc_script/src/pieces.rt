@@ -1,7 +1,8 @@
-ghost use Rattle.std.specs.Prelude.{◌≡◌, ◌<◌, ◌∷◌, length};
+ghost use Rattle.std.specs.Prelude.{◌≡◌, ◌<◌, ◌≤◌, ◌∷◌, length};
+ghost use Rattle.std.specs.List.{prefix_len};
 ghost use Rattle.sc_types.specs.Tokens.{is_quote};
 ghost use Rattle.sc_script.specs.Pairs.{next_quote, next_in_list, next_place, is_gap, is_outside, start, pieces};
-ghost use Rattle.sc_script.specs.Pieces.{piece_len};
+ghost use Rattle.sc_script.specs.Pieces.{is_inner, piece_len};
 
 /// Whether a byte stands within a text, that is between two of one quotation mark.
 #[derive(Clone, Copy, Debug, PartialEq, Eq)]
@@ -91,9 +92,33 @@ fn is_gap(place: Place, byte: u8) -> bool
     byte == b' ' && is_outside(place.quote) && !place.in_list
 }
 
-/// How many bytes stand before the first space between pairs.
+/// Whether nothing begins or ends with this byte, neither a pair nor a text nor a list.
+fn is_inner(byte: u8) -> bool
+    ensures { result ≡ is_inner byte }
+{
+    byte > b'\'' && byte != b'['
+}
+
+#[tactic(auto, using(sc_expr::proofs::RunLemmas::front))]
+fn inner_len(text: &[u8]) -> usize
+    ensures { result ≡ prefix_len is_inner text.now }
+{
+    text.iter().take_while(|b| is_inner(**b)).count()
+}
+
+/// How many bytes stand before the first space between pairs. Most of them are told quickly.
+#[tactic(auto, using(sc_expr::proofs::RunLemmas::front, crate::proofs::PieceLemmas::past_inner))]
 fn piece_len(text: &[u8]) -> usize
     ensures { result ≡ piece_len start text.now }
+{
+    let inner = inner_len(text);
+    inner + outer_len(&text[inner..])
+}
+
+/// The same, byte by byte.
+fn outer_len(text: &[u8]) -> usize
+    ensures value { result ≡ piece_len start text.now }
+    ensures within { result ≤ length text.now }
 {
     let mut place = START;
     for (i, byte) in text.iter().enumerate() {

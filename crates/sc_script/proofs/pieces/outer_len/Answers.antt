@@ -2,7 +2,7 @@ use Rattle.std.proofs.Common.{◌≡◌, ◌+◌, drop, sym, ◌∙◌, arith}
 use Rattle.sc_script.specs.Pairs.{start}
 use Rattle.sc_script.specs.Pieces.{piece_len}
 use Rattle.sc_script.proofs.PieceLemmas.{at_gap, past_byte, at_end}
-use Rattle.sc_script.proofs.pieces.piece_len.Goals as goal
+use Rattle.sc_script.proofs.pieces.outer_len.Goals as goal
 
 pub returns-then-is_gap : goal.returns-then-is_gap
 returns-then-is_gap c =
