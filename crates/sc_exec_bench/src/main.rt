@@ -1,6 +1,6 @@
-//! Runs content for bench/content.sh to time. Each line of the input is a number of rounds and a chart: the block of the
-//! first child of the chart's first state, an `<onentry>`, is run so often. Written are the rounds, how many internal
-//! events wait then, and the value of the first datum.
+//! Runs content for bench/content.sh to time. Each line of the input is a number of rounds and a chart: the block of
+//! the first child of the chart's first state, an `<onentry>`, is run so often. Written are the rounds, how many
+//! internal events wait then, and the value of the first datum.
 #![tactic(auto)]
 
 mod session;
