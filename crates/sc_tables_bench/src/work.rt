@@ -51,7 +51,8 @@ fn exits(alloc: Global, t: &Tables, configuration: &Row, rounds: u32) -> Option<
     let mut sum = 0u64;
     for _ in 0..rounds {
         exit_row(t, 0, &none, configuration, &mut row);
-        sum = sum.wrapping_add(u64::from(row.next(0).unwrap_or(0)));
+        // One more than the first, so that none is told apart from the state 0.
+        sum = sum.wrapping_add(row.next(0).map_or(0, |first| u64::from(first) + 1));
     }
     Some(sum)
 }
