@@ -1,7 +1,7 @@
 #!/bin/sh
-# What the tables of a chart and the sets of a transition cost: `build` of 4,096 states against 512, and the exit row,
-# which begins with the domain, and the entry rows of one transition in a flat chart of 4,096 states and in one of 39
-# levels; and the memory that the tables of 4,096 states take.
+# What the tables of a chart and the sets of a transition cost: `build` of 4,096 states against 512, and the domain, the
+# exit row, which begins with the domain, and the entry rows of one transition in a flat chart of 4,096 states and in
+# one of 39 levels; and the memory that the tables of 4,096 states take.
 # Run `rt run` in crates/sc_tables_bench first, or name another program on the command line.
 # A time is processor time: that of many rounds less that of one, over the difference, each the least of five runs.
 cd "$(dirname "$0")/.." || exit 1
@@ -53,6 +53,7 @@ for shape in flat deep; do
     many=$(each build 301)
     echo "build, $shape: $((few / 1000)) us for 512 states, $((many / 1000)) us for 4096," \
         "a state costs $(echo "scale=2; $many / $few / 8" | bc) times as much"
-    echo "sets, $shape, 4096 states: exit $(each exit 4000001) ns, entry $(each entry 2000001) ns"
+    echo "sets, $shape, 4096 states: domain $(each domain 16000001) ns, exit $(each exit 4000001) ns," \
+        "entry $(each entry 2000001) ns"
     echo "memory, $shape: $(kilobytes none) KiB with the tables, $(kilobytes build) KiB with a second set of them"
 done

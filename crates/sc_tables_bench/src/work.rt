@@ -36,8 +36,10 @@ fn domains(alloc: Global, t: &Tables, rounds: u32) -> u64
 {
     let none = Sequence::new(alloc);
     let mut sum = 0u64;
-    for _ in 0..rounds {
-        sum = sum.wrapping_add(u64::from(domain(t, 0, &none).unwrap_or(0)));
+    for round in 0..rounds {
+        // Each in turn, so that none is computed ahead of the rounds.
+        let transition = round % t.transition_count();
+        sum = sum.wrapping_add(u64::from(domain(t, transition, &none).unwrap_or(0)));
     }
     sum
 }
