@@ -1,6 +1,5 @@
--- The bytes that a `SmallBytes` holds, and what a copy of them shares.
-use Rattle.std.specs.Prelude.{ℕ, List, nat_le, ◌≤◌, ◌<◌, if◌then◌else◌, length, take, Some, None}
-use Rattle.std.specs.declared.option.Option.{Option}
+-- The bytes that a `SmallBytes` holds.
+use Rattle.std.specs.Prelude.{ℕ, List, ◌≤◌, ◌<◌, length, take}
 use Rattle.sc_base.specs.declared.small_bytes.Held.{Held}
 use Rattle.sc_base.specs.declared.small_bytes.Held.TheVariants.{Here, Elsewhere}
 use Rattle.sc_base.specs.declared.small_bytes.SmallBytes.TheInside.{Inside}
@@ -20,7 +19,3 @@ IsHeld (Elsewhere bytes) = 22 < length bytes
 
 abbrev pub IsSmall : Inside → Type 0
 IsSmall s = IsHeld s.held
-
--- the bytes that a copy shares with these: all of them, where they have a count of owners
-abbrev pub share_of : List ℕ → Option (List ℕ)
-share_of bytes = if nat_le (length bytes) 22 then None else Some bytes

@@ -4,11 +4,13 @@
 
 mod boxed;
 mod bytes;
+mod counted;
 mod failure;
 mod memory;
 mod plain;
 mod queue;
 mod sequence;
+mod shared_bytes;
 mod small_bytes;
 mod text;
 mod writer;
@@ -20,7 +22,7 @@ pub use memory::NoMemory;
 pub use plain::Plain;
 pub use queue::Queue;
 pub use sequence::Sequence;
-pub use small_bytes::{Share, SmallBytes};
+pub use shared_bytes::SharedBytes;
 pub use text::{
     Name, PLAIN_NAME_LIMIT, PlainName, TEXT_LIMIT, Unfit, Word, is_plain_name, is_text, is_utf8,
     is_word,

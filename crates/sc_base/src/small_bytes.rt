@@ -1,51 +1,10 @@
-ghost use Rattle.std.specs.Prelude.{◌≡◌, [], IsTrue, ◌↔◌, IfOk};
-ghost use Rattle.sc_base.specs.SmallBytes.{share_of};
+ghost use Rattle.std.specs.Prelude.{◌≡◌, IfOk};
 
+use crate::counted::Counted;
 use crate::memory::NoMemory;
 use crate::plain::Plain;
 use std::alloc::{AllocError, Global};
 use std::marker::Model;
-use std::sync::Arc;
-
-/// Bytes with a count of owners.
-#[derive(Debug, Drop)]
-struct Counted {
-    bytes: Arc<Vec<u8>>,
-}
-
-impl Model for Counted {
-    ghost use Rattle.std.specs.Prelude.{List, ℕ};
-
-    ghost Value = { List ℕ };
-
-    ghost view = { λ c. c.bytes.value.items };
-}
-
-impl Clone for Counted {
-    ghost is_clone = { λ b copy. copy ≡ b };
-
-    fn clone(&self) -> Result<Self, AllocError> {
-        Ok(Counted {
-            bytes: Arc::try_clone(&self.bytes)?,
-        })
-    }
-}
-
-/// What a copy of a [`SmallBytes`] needs beside it: where the bytes have a count of owners, one owner more. Taking it
-/// is the part of a copy that may fail. A struct of several texts takes the shares of all of them first and then moves
-/// each text once.
-#[derive(Debug, Drop)]
-pub struct Share {
-    counted: Option<Counted>,
-}
-
-impl Model for Share {
-    ghost use Rattle.std.specs.Prelude.{Option, List, ℕ};
-
-    ghost Value = { Option (List ℕ) };
-
-    ghost view = { λ s. s.counted };
-}
 
 /// Where bytes lie.
 #[derive(Debug, Drop)]
@@ -85,23 +44,9 @@ impl SmallBytes {
                 held: Held::Here { len, room },
             });
         }
-        let bytes = Vec::from_slice(alloc, bytes)?;
-        let counted = Counted {
-            bytes: Arc::new(alloc, bytes)?,
-        };
         Ok(SmallBytes {
-            held: Held::Elsewhere(counted),
+            held: Held::Elsewhere(Counted::new(alloc, bytes)?),
         })
-    }
-
-    /// No bytes.
-    pub fn empty() -> SmallBytes
-        ensures { result ≡ [] }
-    {
-        let room = [0u8; 22];
-        SmallBytes {
-            held: Held::Here { len: 0, room },
-        }
     }
 
     pub fn slice(&self) -> &[u8]
@@ -109,41 +54,8 @@ impl SmallBytes {
     {
         match &self.held {
             Held::Here { len, room } => &room[..*len as usize],
-            Held::Elsewhere(counted) => counted.bytes.as_slice(),
+            Held::Elsewhere(counted) => counted.slice(),
         }
-    }
-
-    pub fn is_empty(&self) -> bool
-        ensures { IsTrue result ↔ (self.now ≡ []) }
-    {
-        self.slice().is_empty()
-    }
-
-    /// What [`SmallBytes::shared`] makes a copy with.
-    pub fn share(&self) -> Result<Share, AllocError>
-        ensures { IfOk result (λ share. share ≡ share_of self.now) }
-    {
-        let counted = match &self.held {
-            Held::Here { .. } => None,
-            Held::Elsewhere(counted) => Some(counted.clone()?),
-        };
-        Ok(Share { counted })
-    }
-
-    /// A copy of these bytes, made with their share.
-    pub fn shared(&self, share: Share) -> SmallBytes
-        requires own { share ≡ share_of self.now }
-        ensures { result ≡ self.now }
-    {
-        let held = match (share.counted, &self.held) {
-            (Some(counted), _) => Held::Elsewhere(counted),
-            (None, Held::Here { len, room }) => Held::Here {
-                len: *len,
-                room: *room,
-            },
-            (None, Held::Elsewhere(_)) => unreachable!(),
-        };
-        SmallBytes { held }
     }
 }
 
@@ -151,7 +63,14 @@ impl Clone for SmallBytes {
     ghost is_clone = { λ b copy. copy ≡ b };
 
     fn clone(&self) -> Result<Self, AllocError> {
-        Ok(self.shared(self.share()?))
+        let held = match &self.held {
+            Held::Here { len, room } => Held::Here {
+                len: *len,
+                room: *room,
+            },
+            Held::Elsewhere(counted) => Held::Elsewhere(counted.clone()?),
+        };
+        Ok(SmallBytes { held })
     }
 }
 

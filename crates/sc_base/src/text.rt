@@ -1,12 +1,11 @@
 ghost use Rattle.std.specs.Prelude.{◌≡◌, ◌↔◌, ◌==◌, ◌||◌, not, IsTrue, IfOk};
 ghost use Rattle.std.specs.List.{list_all};
 ghost use Rattle.std.specs.Str.{IsAscii, IsUtf8, is_utf8};
-ghost use Rattle.sc_base.specs.SmallBytes.{share_of};
 ghost use Rattle.sc_base.specs.Text.{is_name_byte, is_letter, is_digit, is_keyword, starts_with_letter, is_plain_name, is_text_byte, is_text, is_name, is_word, IsName, IsWord, IsPlainName};
 
 use crate::memory::NoMemory;
 use crate::plain::Plain;
-use crate::small_bytes::{Share, SmallBytes};
+use crate::small_bytes::SmallBytes;
 use std::alloc::{AllocError, Global};
 use std::marker::Model;
 
@@ -215,23 +214,6 @@ impl Name {
         ensures form { IsName self.now }
     {
         self.bytes.slice()
-    }
-
-    /// What [`Name::shared`] makes a copy with.
-    pub fn share(&self) -> Result<Share, AllocError>
-        ensures { IfOk result (λ share. share ≡ share_of self.now) }
-    {
-        self.bytes.share()
-    }
-
-    /// A copy of this name, made with its share.
-    pub fn shared(&self, share: Share) -> Name
-        requires own { share ≡ share_of self.now }
-        ensures { result ≡ self.now }
-    {
-        Name {
-            bytes: self.bytes.shared(share),
-        }
     }
 }
 

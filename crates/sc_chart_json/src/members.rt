@@ -3,6 +3,7 @@ ghost use Rattle.std.specs.List.{list_all, list_any, filter_map};
 ghost use Rattle.std.specs.Str.{bytes_eq};
 ghost use Rattle.std.specs.Option.{option_map_or};
 ghost use Rattle.serde_json.specs.View.{view, items_view};
+ghost use Rattle.sc_types.specs.Profiles.{plain};
 ghost use Rattle.sc_types.specs.Elements.{attribute_text, is_code};
 ghost use Rattle.sc_types.specs.ChartTexts.{text_at, kids_at, is_known, has_known_members, has_fit_kids, is_given, is_fit, has_one, has_fit_members, is_bad_code, bad_code, member_of, member_at, members_at};
 ghost use Rattle.sc_expr.specs.Reading.{expr_of};
@@ -145,10 +146,10 @@ pub(crate) fn read_members(
     tag: Tag,
     value: &Value,
 ) -> Result<Sequence<(Bytes, Member)>, Failure<Attribute>>
-    ensures ok { IfOk result (λ ms. (bad_code expr_of tag (view value.now) ≡ None)
-        × (ms ≡ members_at expr_of tag (view value.now))) }
+    ensures ok { IfOk result (λ ms. (bad_code (expr_of plain) tag (view value.now) ≡ None)
+        × (ms ≡ members_at (expr_of plain) tag (view value.now))) }
     ensures bad { (a : Attribute) → result ≡ Err (Failure.Fault a)
-        → bad_code expr_of tag (view value.now) ≡ Some a }
+        → bad_code (expr_of plain) tag (view value.now) ≡ Some a }
 {
     read_all(alloc, attributes(tag), tag, value)
 }
@@ -159,10 +160,10 @@ fn read_all(
     tag: Tag,
     value: &Value,
 ) -> Result<Sequence<(Bytes, Member)>, Failure<Attribute>>
-    ensures ok { IfOk result (λ ms. (find (is_bad_code expr_of tag (view value.now)) attributes.now ≡ None)
-        × (ms ≡ filter_map (member_at expr_of tag (view value.now)) attributes.now)) }
+    ensures ok { IfOk result (λ ms. (find (is_bad_code (expr_of plain) tag (view value.now)) attributes.now ≡ None)
+        × (ms ≡ filter_map (member_at (expr_of plain) tag (view value.now)) attributes.now)) }
     ensures bad { (a : Attribute) → result ≡ Err (Failure.Fault a)
-        → find (is_bad_code expr_of tag (view value.now)) attributes.now ≡ Some a }
+        → find (is_bad_code (expr_of plain) tag (view value.now)) attributes.now ≡ Some a }
 {
     let mut members = Sequence::new(alloc);
     for attribute in attributes {
@@ -180,10 +181,10 @@ fn read_member(
     value: &Value,
     attribute: Attribute,
 ) -> Result<Option<Member>, Failure<Attribute>>
-    ensures ok { IfOk result (λ o. (is_bad_code expr_of tag (view value.now) attribute ≡ false)
-        × (option_map (λ m. (attribute_text attribute, m)) o ≡ member_at expr_of tag (view value.now) attribute)) }
+    ensures ok { IfOk result (λ o. (is_bad_code (expr_of plain) tag (view value.now) attribute ≡ false)
+        × (option_map (λ m. (attribute_text attribute, m)) o ≡ member_at (expr_of plain) tag (view value.now) attribute)) }
     ensures bad { (a : Attribute) → result ≡ Err (Failure.Fault a) → (a ≡ attribute)
-        × (is_bad_code expr_of tag (view value.now) attribute ≡ true) }
+        × (is_bad_code (expr_of plain) tag (view value.now) attribute ≡ true) }
 {
     match text_at(value, attribute.text()) {
         Some(text) => read_text(alloc, attribute, attribute.form(tag), text),
@@ -198,10 +199,10 @@ fn read_text(
     form: Form,
     text: &[u8],
 ) -> Result<Option<Member>, Failure<Attribute>>
-    ensures ok { IfOk result (λ o. (is_code form && is_none (expr_of text.now) ≡ false)
-        × (o ≡ member_of expr_of form text.now)) }
+    ensures ok { IfOk result (λ o. (is_code form && is_none (expr_of plain text.now) ≡ false)
+        × (o ≡ member_of (expr_of plain) form text.now)) }
     ensures bad { (a : Attribute) → result ≡ Err (Failure.Fault a) → (a ≡ attribute)
-        × (is_code form && is_none (expr_of text.now) ≡ true) }
+        × (is_code form && is_none (expr_of plain text.now) ≡ true) }
 {
     match form {
         Form::Code => Ok(Some(read_code(alloc, attribute, text)?)),
@@ -214,8 +215,8 @@ fn read_text(
 }
 
 fn read_code(alloc: Global, attribute: Attribute, text: &[u8]) -> Result<Member, Failure<Attribute>>
-    ensures ok { IfOk result (λ m. member_of expr_of Form.Code text.now ≡ Some m) }
-    ensures bad { (a : Attribute) → result ≡ Err (Failure.Fault a) → (a ≡ attribute) × (expr_of text.now ≡ None) }
+    ensures ok { IfOk result (λ m. member_of (expr_of plain) Form.Code text.now ≡ Some m) }
+    ensures bad { (a : Attribute) → result ≡ Err (Failure.Fault a) → (a ≡ attribute) × (expr_of plain text.now ≡ None) }
 {
     match read_expr(alloc, text) {
         Ok(code) => Ok(Member::Code(code)),

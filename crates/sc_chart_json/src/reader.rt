@@ -1,5 +1,6 @@
 ghost use Rattle.std.specs.Prelude.{◌≡◌, ◌<◌, ◌≤◌, ◌+◌, ◌-◌, ◌^◌, nat_lt, ℕ, [], ◌∷◌, Option, None, Some, Ok, Err, IfOk, OnOk, length, if◌then◌else◌};
 ghost use Rattle.std.specs.Option.{option_map_or};
+ghost use Rattle.sc_types.specs.Profiles.{plain};
 ghost use Rattle.sc_types.specs.Elements.{is_numbered, attribute_text};
 ghost use Rattle.serde_json.specs.Errors.{IsMemory};
 ghost use Rattle.serde_json.specs.View.{view, items_view};
@@ -123,7 +124,7 @@ impl Walk {
         requires { self.old.states ≤ STATE_LIMIT }
         ensures ok { IfOk result (IsOwn self.old self.new (view value.now)) }
         ensures fault { (f : ChartFault) → result ≡ Err (ChartRefusal.Fault f)
-            → own_fault expr_of self.old.states (place self.old.path (view value.now)) ≡ Some f }
+            → own_fault (expr_of plain) self.old.states (place self.old.path (view value.now)) ≡ Some f }
     {
         let tag = self.tag(alloc, value)?;
         if !has_known_members(tag, value) {
@@ -141,7 +142,7 @@ impl Walk {
     fn tag(&self, alloc: Global, value: &Value) -> Result<Tag, ChartRefusal>
         ensures ok { IfOk result (λ t. (tag_at (view value.now) ≡ Some t) × (length self.now.path < LEVEL_LIMIT)) }
         ensures fault { (f : ChartFault) → result ≡ Err (ChartRefusal.Fault f) → (before : ℕ)
-            → own_fault expr_of before (place self.now.path (view value.now)) ≡ Some f }
+            → own_fault (expr_of plain) before (place self.now.path (view value.now)) ≡ Some f }
     {
         let Some(name) = text_at(value, "tag") else {
             return Err(self.fault(alloc, NOT_ELEMENT));
@@ -161,11 +162,11 @@ impl Walk {
         tag: Tag,
         value: &Value,
     ) -> Result<Sequence<(Bytes, Member)>, ChartRefusal>
-        ensures ok { IfOk result (λ ms. (bad_code expr_of tag (view value.now) ≡ None)
-            × (ms ≡ members_at expr_of tag (view value.now))) }
+        ensures ok { IfOk result (λ ms. (bad_code (expr_of plain) tag (view value.now) ≡ None)
+            × (ms ≡ members_at (expr_of plain) tag (view value.now))) }
         ensures fault { (f : ChartFault) → result ≡ Err (ChartRefusal.Fault f) → (later : Option ChartFault)
             → option_map_or (λ a. Some (fault BAD_EXPR self.now.path (attribute_text a)))
-            (bad_code expr_of tag (view value.now)) later ≡ Some f }
+            (bad_code (expr_of plain) tag (view value.now)) later ≡ Some f }
     {
         match read_members(alloc, tag, value) {
             Ok(members) => Ok(members),

@@ -7,7 +7,7 @@ ghost use Rattle.sc_types.specs.declared.host.TimerImage.{TimerImage};
 use crate::body::{Body, InstalledChart};
 use crate::changes::mark;
 use crate::session::{Session, is_ready};
-use sc_base::{SmallBytes, Word};
+use sc_base::{SharedBytes, Word};
 use sc_types::{Event, TimerImage};
 
 impl<P: Drop> Body<P> {
@@ -69,7 +69,7 @@ impl<P: Drop> Body<P> {
     }
 
     /// Drops the pending sends of a session that have an id.
-    pub(crate) fn undo(&mut self, session: &Word, id: &SmallBytes)
+    pub(crate) fn undo(&mut self, session: &Word, id: &SharedBytes)
         requires agrees { Agrees self.old }
         ensures makes { Makes (without_sends (image self.old) session.now id.now) self.old self.new }
         ensures charts { self.new.charts.items ≡ self.old.charts.items }
@@ -99,7 +99,7 @@ impl<P: Drop> Body<P> {
     }
 
     /// The first pending send, which is due, leaves, and its event joins the external queue of the session at a place.
-    pub(crate) fn fire(&mut self, place: usize, invokeid: Option<SmallBytes>)
+    pub(crate) fn fire(&mut self, place: usize, invokeid: Option<SharedBytes>)
         requires agrees { Agrees self.old }
         requires due { IsFirstDue self.old.clock self.old.timers.sends }
         requires within { place < length self.old.sessions.items }
@@ -116,7 +116,7 @@ impl<P: Drop> Body<P> {
 }
 
 /// An event with the id of an invocation, where one is given.
-pub(crate) fn with_invokeid(mut event: Event, invokeid: Option<SmallBytes>) -> Event
+pub(crate) fn with_invokeid(mut event: Event, invokeid: Option<SharedBytes>) -> Event
     ensures { result ≡ with_invokeid event invokeid }
 {
     if let Some(id) = invokeid {

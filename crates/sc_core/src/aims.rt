@@ -9,7 +9,7 @@ ghost use Rattle.sc_types.specs.declared.host.SessionImage.{SessionImage};
 
 use crate::body::Body;
 use crate::session::{Session, is_live};
-use sc_base::{NoMemory, Plain, SmallBytes, Word};
+use sc_base::{NoMemory, Plain, SharedBytes, Word};
 use sc_types::{InvokerImage, Phase, SessionState, To};
 
 /// Where an event goes that a session sends.
@@ -59,7 +59,7 @@ fn is_cut_from(invoker: &Option<InvokerImage>, name: &Word) -> bool
 pub(crate) fn invokeid_for(
     invoker: &Option<InvokerImage>,
     name: &Word,
-) -> Result<Option<SmallBytes>, NoMemory>
+) -> Result<Option<SharedBytes>, NoMemory>
     ensures { IfOk result (λ id. id ≡ invokeid_for invoker.now name.now) }
 {
     let Some(invoker) = invoker else {

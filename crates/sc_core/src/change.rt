@@ -4,7 +4,7 @@ ghost use Rattle.sc_core.specs.Installing.{CanApply, CanApplyAll, HasRoom, HaveR
 
 use crate::body::{Body, InstalledChart};
 use crate::session::Session;
-use sc_base::{Queue, SmallBytes, Word};
+use sc_base::{Queue, SharedBytes, Word};
 use sc_types::{Event, SessionState, TimerImage};
 
 /// An elementary change of the host. A command is prepared as a list of them, each to be made of the host that the ones
@@ -61,12 +61,12 @@ pub enum Change<P> {
     /// The pending sends of a session and an id go.
     Undo {
         session: Word,
-        id: SmallBytes,
+        id: SharedBytes,
     },
     /// The first pending send leaves and joins an external queue.
     Fire {
         place: usize,
-        invokeid: Option<SmallBytes>,
+        invokeid: Option<SharedBytes>,
     },
     /// The first pending send is lost.
     Lose,

@@ -18,7 +18,7 @@ use crate::change::Change;
 use crate::draft::Draft;
 use crate::failures::communication_error;
 use crate::session::{is_live, is_running};
-use sc_base::{NoMemory, Plain, SmallBytes, Word};
+use sc_base::{NoMemory, Plain, SharedBytes, Word};
 use sc_types::{Delivery, Effect, Event, InvokerImage, Phase, SessionState, TimerImage, To};
 use std::alloc::Global;
 
@@ -33,7 +33,7 @@ fn may_delay(phase: &Phase, delayed: u64) -> bool
 fn count_after<P>(
     change: &Change<P>,
     session: &Word,
-    id: &SmallBytes,
+    id: &SharedBytes,
     count: u64,
 ) -> Result<u64, NoMemory>
     ensures { IfOk result (λ n. n ≡ count_after session.now id.now change.now count) }
@@ -77,7 +77,7 @@ impl<P: Drop> Body<P> {
         draft: &mut Draft<P>,
         place: usize,
         after: &SessionState,
-        sendid: &SmallBytes,
+        sendid: &SharedBytes,
     ) -> Result<Delivery, NoMemory>
         ensures told { IfOk result (λ told. (g : HostImage) (t : SessionImage) (e : Event)
             → IsSender (image self.now) place after.now g draft.old t → e.sendid ≡ sendid.now
@@ -189,7 +189,7 @@ impl<P: Drop> Body<P> {
     }
 
     /// How many sends of a session have an id after the changes so far.
-    fn pending(&self, draft: &Draft<P>, session: &Word, id: &SmallBytes) -> Result<u64, NoMemory>
+    fn pending(&self, draft: &Draft<P>, session: &Word, id: &SharedBytes) -> Result<u64, NoMemory>
         ensures { IfOk result (λ n. (g : HostImage) → g.timers ≡ self.now.timers.sends → IsDraft session.now g draft.now
             → n ≡ count_by (is_send session.now id.now) (so_far g draft.now).timers) }
     {
@@ -210,7 +210,7 @@ impl<P: Drop> Body<P> {
         draft: &mut Draft<P>,
         place: usize,
         after: &SessionState,
-        sendid: SmallBytes,
+        sendid: SharedBytes,
     ) -> Result<Delivery, NoMemory>
         ensures told { IfOk result (λ told. (g : HostImage) (t : SessionImage)
             → IsSender (image self.now) place after.now g draft.old t

@@ -1,7 +1,7 @@
 ghost use Rattle.std.specs.Prelude.{◌≡◌, IfOk, codes};
 ghost use Rattle.sc_core.specs.Ticking.{failure_of};
 
-use sc_base::{Name, NoMemory, Plain, SmallBytes};
+use sc_base::{Name, NoMemory, Plain, SharedBytes};
 use sc_types::{Data, Event, Kind};
 use std::alloc::Global;
 
@@ -15,7 +15,7 @@ fn error_name(alloc: Global) -> Result<Name, NoMemory>
 }
 
 /// What a sender hears of an event that reaches nobody, by the id of the send.
-pub(crate) fn communication_error(alloc: Global, sendid: &SmallBytes) -> Result<Event, NoMemory>
+pub(crate) fn communication_error(alloc: Global, sendid: &SharedBytes) -> Result<Event, NoMemory>
     ensures { IfOk result (λ e. e ≡ failure_of sendid.now) }
 {
     Ok(Event {
@@ -23,9 +23,9 @@ pub(crate) fn communication_error(alloc: Global, sendid: &SmallBytes) -> Result<
         name: error_name(alloc)?,
         kind: Kind::Platform,
         sendid: sendid.copy()?,
-        origin: SmallBytes::empty(),
-        origintype: SmallBytes::empty(),
-        invokeid: SmallBytes::empty(),
+        origin: SharedBytes::empty(),
+        origintype: SharedBytes::empty(),
+        invokeid: SharedBytes::empty(),
         payload: Data::Absent,
     })
 }

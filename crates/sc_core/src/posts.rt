@@ -10,7 +10,7 @@ use crate::change::Change;
 use crate::prepared::Prepared;
 use crate::session::Session;
 use crate::weights::is_too_heavy;
-use sc_base::{NoMemory, Plain, SmallBytes, Word};
+use sc_base::{NoMemory, Plain, SharedBytes, Word};
 use sc_types::{Data, EVENT_NAME_LIMIT, Event, Kind, PAIR_LIMIT, PairList, Phase, Refusal, Reply};
 use std::alloc::Global;
 
@@ -101,10 +101,10 @@ fn posted_event(name: &Word, pairs: &PairList) -> Result<Event, NoMemory>
         number: 0,
         name: name.name()?,
         kind: Kind::External,
-        sendid: SmallBytes::empty(),
-        origin: SmallBytes::empty(),
-        origintype: SmallBytes::empty(),
-        invokeid: SmallBytes::empty(),
+        sendid: SharedBytes::empty(),
+        origin: SharedBytes::empty(),
+        origintype: SharedBytes::empty(),
+        invokeid: SharedBytes::empty(),
         payload: pairs_data(pairs)?,
     })
 }

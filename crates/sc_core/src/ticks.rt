@@ -13,7 +13,7 @@ use crate::change::Change;
 use crate::failures::communication_error;
 use crate::prepared::Prepared;
 use crate::session::is_running;
-use sc_base::{NoMemory, Plain, Queue, Sequence, SmallBytes, Word};
+use sc_base::{NoMemory, Plain, Queue, Sequence, SharedBytes, Word};
 use sc_types::{CLOCK_LIMIT, Delivery, InvokerImage, Phase, Refusal, Reply, TimerImage};
 use std::alloc::Global;
 
@@ -68,7 +68,7 @@ impl<P: Drop> Draft<P> {
         alloc: Global,
         place: usize,
         phase: &Phase,
-        sendid: &SmallBytes,
+        sendid: &SharedBytes,
     ) -> Result<(), NoMemory>
         ensures { OnOk result
             (Adds (fired_failed self.old.events place phase.now sendid.now) self.old self.new) }

@@ -2,14 +2,14 @@ ghost use Rattle.std.specs.Prelude.{◌≡◌, [], ◌∷◌, ◌++◌, find, op
 ghost use Rattle.sc_law.specs.Evaluation.{is_pair_named};
 
 use crate::places::{Places, push_reserved};
-use sc_base::{NoMemory, Plain, SmallBytes};
+use sc_base::{NoMemory, Plain, SharedBytes};
 use std::alloc::Global;
 use std::marker::Model;
 
 /// The ids that `In` knows, each with the number of its state. Of two rows with one id the first counts.
 #[derive(Drop)]
 pub struct Ids {
-    rows: Vec<(SmallBytes, u32)>,
+    rows: Vec<(SharedBytes, u32)>,
     places: Places,
 }
 
@@ -35,7 +35,7 @@ impl Ids {
     }
 
     /// Adds a state. Out of memory, the ids stay as they were.
-    pub fn add(&mut self, id: SmallBytes, state: u32) -> Result<(), NoMemory>
+    pub fn add(&mut self, id: SharedBytes, state: u32) -> Result<(), NoMemory>
         ensures ok { OnOk result (self.new ≡ self.old ++ (id, state) ∷ []) }
         ensures err { OnErr result (self.new ≡ self.old) }
     {

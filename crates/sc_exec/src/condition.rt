@@ -7,7 +7,7 @@ ghost use Rattle.sc_exec.specs.Runs.{running_of, KeepsRows};
 use crate::events::enqueue_failure;
 use crate::running::Running;
 use crate::values::value_of;
-use sc_base::{NoMemory, SmallBytes};
+use sc_base::{NoMemory, SharedBytes};
 use sc_types::{Expr, Value};
 use std::alloc::Global;
 
@@ -25,7 +25,7 @@ pub fn holds(alloc: Global, run: &mut Running, condition: Option<&Expr>) -> Resu
     match value_of(alloc, &run.env, code)? {
         Some(Value::Bool(truth)) => Ok(truth),
         _ => {
-            enqueue_failure(alloc, run, SmallBytes::empty())?;
+            enqueue_failure(alloc, run, SharedBytes::empty())?;
             Ok(false)
         }
     }

@@ -15,7 +15,7 @@ use crate::events::enqueue_failure;
 use crate::running::Running;
 use crate::sending::send;
 use crate::values::{declare, fault, needed, write};
-use sc_base::{Failure, NoMemory, Plain, SmallBytes};
+use sc_base::{Failure, NoMemory, Plain, SharedBytes};
 use sc_types::{Attribute, Node, Tag, Value};
 use std::alloc::Global;
 
@@ -43,7 +43,7 @@ fn elements(
     nodes: &[Node],
     from: usize,
     to: usize,
-) -> Result<(), Failure<SmallBytes>>
+) -> Result<(), Failure<SharedBytes>>
     requires ids { HasIds run.old.env }
     requires from { from ≤ to }
     requires to { to ≤ length nodes.now }
@@ -59,7 +59,7 @@ fn elements(
 /// Other elements than these do nothing.
 #[cycle(run)]
 #[tactic(auto, using(crate::proofs::Kept::keeping))]
-fn element(alloc: Global, run: &mut Running, node: &Node) -> Result<(), Failure<SmallBytes>>
+fn element(alloc: Global, run: &mut Running, node: &Node) -> Result<(), Failure<SharedBytes>>
     requires { HasIds run.old.env }
     ensures outcome { Does result run.new ((part node.now).runs (running_of run.old)) }
     ensures kept { KeepsRows run.old run.new }
@@ -79,7 +79,7 @@ fn element(alloc: Global, run: &mut Running, node: &Node) -> Result<(), Failure<
 /// The first branch whose condition holds. SCXML 4.3 to 4.5.
 #[cycle(run)]
 #[tactic(auto, using(crate::proofs::Kept::keeping))]
-fn choice(alloc: Global, run: &mut Running, node: &Node) -> Result<(), Failure<SmallBytes>>
+fn choice(alloc: Global, run: &mut Running, node: &Node) -> Result<(), Failure<SharedBytes>>
     requires { HasIds run.old.env }
     ensures outcome { Does result run.new (choice (members_of node.now) (map part (kids node.now)) (running_of run.old)) }
     ensures kept { KeepsRows run.old run.new }
@@ -103,7 +103,7 @@ fn choice(alloc: Global, run: &mut Running, node: &Node) -> Result<(), Failure<S
 /// SCXML 4.6. The array is evaluated first.
 #[cycle(run)]
 #[tactic(auto, using(crate::proofs::Kept::keeping))]
-fn for_each(alloc: Global, run: &mut Running, node: &Node) -> Result<(), Failure<SmallBytes>>
+fn for_each(alloc: Global, run: &mut Running, node: &Node) -> Result<(), Failure<SharedBytes>>
     requires { HasIds run.old.env }
     ensures outcome { Does result run.new (for_each (members_of node.now) (map part (kids node.now)) (running_of run.old)) }
     ensures kept { KeepsRows run.old run.new }
@@ -122,7 +122,7 @@ fn over_items(
     run: &mut Running,
     node: &Node,
     items: &[Value],
-) -> Result<(), Failure<SmallBytes>>
+) -> Result<(), Failure<SharedBytes>>
     requires { HasIds run.old.env }
     ensures outcome { Does result run.new
         (over_items (members_of node.now) (map part (kids node.now)) (Some items.now) (running_of run.old)) }
@@ -140,7 +140,7 @@ fn each_item(
     run: &mut Running,
     node: &Node,
     items: &[Value],
-) -> Result<(), Failure<SmallBytes>>
+) -> Result<(), Failure<SharedBytes>>
     requires { HasIds run.old.env }
     ensures outcome { Does result run.new
         (each_item (members_of node.now) (map part (kids node.now)) 0 items.now (running_of run.old)) }
@@ -160,7 +160,7 @@ fn one_item(
     node: &Node,
     place: usize,
     item: &Value,
-) -> Result<(), Failure<SmallBytes>>
+) -> Result<(), Failure<SharedBytes>>
     requires ids { HasIds run.old.env }
     requires place { place < 2 ^ 63 }
     ensures outcome { Does result run.new (on_done (run_parts (map part (kids node.now)))
@@ -179,7 +179,7 @@ fn set_names(
     node: &Node,
     place: usize,
     item: Value,
-) -> Result<(), Failure<SmallBytes>>
+) -> Result<(), Failure<SharedBytes>>
     requires { place < 2 ^ 63 }
     ensures outcome { Does result run.new
         (on_done (with_name (λ name. write name (Int (pos place))) attribute.Index (members_of node.now))
@@ -196,7 +196,7 @@ fn declare_given(
     run: &mut Running,
     node: &Node,
     attribute: Attribute,
-) -> Result<(), Failure<SmallBytes>>
+) -> Result<(), Failure<SharedBytes>>
     ensures outcome { Does result run.new (with_name declared attribute (members_of node.now) (running_of run.old)) }
     ensures kept { KeepsRows run.old run.new }
 {
@@ -212,7 +212,7 @@ fn write_given(
     node: &Node,
     attribute: Attribute,
     value: Value,
-) -> Result<(), Failure<SmallBytes>>
+) -> Result<(), Failure<SharedBytes>>
     ensures outcome { Does result run.new
         (with_name (λ name. write name value) attribute (members_of node.now) (running_of run.old)) }
     ensures kept { KeepsRows run.old run.new }

@@ -7,7 +7,7 @@ ghost use Rattle.sc_exec.specs.Runs.{running_of, KeepsRows, Does};
 use crate::events::{enqueue, event_name};
 use crate::running::Running;
 use crate::values::{fault, needed, text_or_none, write};
-use sc_base::{Bytes, Failure, SmallBytes};
+use sc_base::{Bytes, Failure, SharedBytes};
 use sc_types::{Attribute, Data, Effect, Event, Kind, LogLine, Node, Value};
 use std::alloc::Global;
 
@@ -16,7 +16,7 @@ pub(crate) fn raise(
     alloc: Global,
     run: &mut Running,
     node: &Node,
-) -> Result<(), Failure<SmallBytes>>
+) -> Result<(), Failure<SharedBytes>>
     ensures outcome { Does result run.new (raise (members_of node.now) (running_of run.old)) }
     ensures kept { KeepsRows run.old run.new }
 {
@@ -24,10 +24,10 @@ pub(crate) fn raise(
         number: 0,
         name: event_name(alloc, text_or_none(node, Attribute::Event))?,
         kind: Kind::Internal,
-        sendid: SmallBytes::empty(),
-        origin: SmallBytes::empty(),
-        origintype: SmallBytes::empty(),
-        invokeid: SmallBytes::empty(),
+        sendid: SharedBytes::empty(),
+        origin: SharedBytes::empty(),
+        origintype: SharedBytes::empty(),
+        invokeid: SharedBytes::empty(),
         payload: Data::Absent,
     };
     enqueue(run, event)?;
@@ -39,7 +39,7 @@ fn put_log(
     run: &mut Running,
     node: &Node,
     value: Value,
-) -> Result<(), Failure<SmallBytes>>
+) -> Result<(), Failure<SharedBytes>>
     ensures outcome { Does result run.new (put_log (members_of node.now) value (running_of run.old)) }
     ensures kept { KeepsRows run.old run.new }
 {
@@ -50,7 +50,7 @@ fn put_log(
 
 /// SCXML 4.7.
 #[tactic(auto, using(crate::proofs::Needs::needs_code_at))]
-pub(crate) fn log(alloc: Global, run: &mut Running, node: &Node) -> Result<(), Failure<SmallBytes>>
+pub(crate) fn log(alloc: Global, run: &mut Running, node: &Node) -> Result<(), Failure<SharedBytes>>
     requires { HasIds run.old.env }
     ensures outcome { Does result run.new (log (members_of node.now) (running_of run.old)) }
     ensures kept { KeepsRows run.old run.new }
@@ -68,7 +68,7 @@ pub(crate) fn assign(
     alloc: Global,
     run: &mut Running,
     node: &Node,
-) -> Result<(), Failure<SmallBytes>>
+) -> Result<(), Failure<SharedBytes>>
     requires { HasIds run.old.env }
     ensures outcome { Does result run.new (assign (members_of node.now) (running_of run.old)) }
     ensures kept { KeepsRows run.old run.new }
@@ -77,7 +77,7 @@ pub(crate) fn assign(
     write(run, text_or_none(node, Attribute::Location), value)
 }
 
-fn cancel_send(run: &mut Running, sendid: SmallBytes) -> Result<(), Failure<SmallBytes>>
+fn cancel_send(run: &mut Running, sendid: SharedBytes) -> Result<(), Failure<SharedBytes>>
     ensures outcome { Does result run.new (cancel_send (Some sendid) (running_of run.old)) }
     ensures kept { KeepsRows run.old run.new }
 {
@@ -91,16 +91,16 @@ pub(crate) fn cancel(
     alloc: Global,
     run: &mut Running,
     node: &Node,
-) -> Result<(), Failure<SmallBytes>>
+) -> Result<(), Failure<SharedBytes>>
     requires { HasIds run.old.env }
     ensures outcome { Does result run.new (cancel (members_of node.now) (running_of run.old)) }
     ensures kept { KeepsRows run.old run.new }
 {
     if let Some(sendid) = node.text(Attribute::SendId) {
-        return cancel_send(run, SmallBytes::from_slice(alloc, sendid)?);
+        return cancel_send(run, SharedBytes::from_slice(alloc, sendid)?);
     }
     match needed(alloc, &run.env, node, Attribute::SendIdExpr)? {
-        Value::Text(sendid) => cancel_send(run, SmallBytes::from_slice(alloc, sendid.slice())?),
+        Value::Text(sendid) => cancel_send(run, SharedBytes::from_slice(alloc, sendid.slice())?),
         _ => Err(fault()),
     }
 }

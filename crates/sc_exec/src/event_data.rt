@@ -14,7 +14,7 @@ ghost use Rattle.sc_exec.specs.Children.{first_with};
 use crate::events::enqueue_failure;
 use crate::running::Running;
 use crate::values::{datum_name, text_or_none, value_of};
-use sc_base::{Bytes, NoMemory, Sequence, SmallBytes};
+use sc_base::{Bytes, NoMemory, Sequence, SharedBytes};
 use sc_eval::{Env, EvalFault, datum};
 use sc_types::{Attribute, Data, Node, PairList, Tag, Value};
 use std::alloc::Global;
@@ -70,7 +70,7 @@ fn put_param(
             datum_name(alloc, text_or_none(node, Attribute::Name))?,
             value,
         )),
-        None => enqueue_failure(alloc, run, SmallBytes::empty()),
+        None => enqueue_failure(alloc, run, SharedBytes::empty()),
     }
 }
 
@@ -108,7 +108,7 @@ fn content(alloc: Global, run: &mut Running, node: &Node) -> Result<Data, NoMemo
     match value_of(alloc, &run.env, code)? {
         Some(value) => Ok(Data::One(value)),
         None => {
-            enqueue_failure(alloc, run, SmallBytes::empty())?;
+            enqueue_failure(alloc, run, SharedBytes::empty())?;
             Ok(Data::One(Value::Text(Bytes::new(alloc))))
         }
     }

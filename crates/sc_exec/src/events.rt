@@ -6,7 +6,7 @@ ghost use Rattle.sc_eval.specs.Envs.{HasIds};
 ghost use Rattle.sc_exec.specs.Runs.{running_of, KeepsRows};
 
 use crate::running::Running;
-use sc_base::{Name, NoMemory, SmallBytes};
+use sc_base::{Name, NoMemory, SharedBytes};
 use sc_types::{Data, Event, Kind, Unfit};
 use std::alloc::Global;
 
@@ -30,7 +30,7 @@ pub(crate) fn enqueue(run: &mut Running, event: Event) -> Result<(), NoMemory>
 }
 
 /// Puts `error.execution` at the back of the internal queue, with the id of a send that failed. SCXML 3.12.2.
-pub fn enqueue_failure(alloc: Global, run: &mut Running, sendid: SmallBytes) -> Result<(), NoMemory>
+pub fn enqueue_failure(alloc: Global, run: &mut Running, sendid: SharedBytes) -> Result<(), NoMemory>
     ensures ok { OnOk result (running_of run.new ≡ failed sendid (running_of run.old)) }
     ensures kept { KeepsRows run.old run.new }
 {
@@ -39,9 +39,9 @@ pub fn enqueue_failure(alloc: Global, run: &mut Running, sendid: SmallBytes) -> 
         name: event_name(alloc, "error.execution".as_bytes())?,
         kind: Kind::Platform,
         sendid,
-        origin: SmallBytes::empty(),
-        origintype: SmallBytes::empty(),
-        invokeid: SmallBytes::empty(),
+        origin: SharedBytes::empty(),
+        origintype: SharedBytes::empty(),
+        invokeid: SharedBytes::empty(),
         payload: Data::Absent,
     };
     enqueue(run, event)

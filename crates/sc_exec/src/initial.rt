@@ -11,7 +11,7 @@ ghost use Rattle.sc_exec.specs.Initial.{data_among, data_in, of_model};
 use crate::events::enqueue_failure;
 use crate::running::Running;
 use crate::values::{datum_name, value_of};
-use sc_base::{NoMemory, Plain, PlainName, SmallBytes};
+use sc_base::{NoMemory, Plain, PlainName, SharedBytes};
 use sc_eval::{EvalFault, last_pair};
 use sc_law::{Path, element, element_paths};
 use sc_types::{Attribute, Chart, Node, Tag, Value};
@@ -46,7 +46,7 @@ fn initial_value(alloc: Global, run: &mut Running, node: &Node) -> Result<(), No
     };
     let value = value_of(alloc, &run.env, code)?;
     if value.is_none() {
-        enqueue_failure(alloc, run, SmallBytes::empty())?;
+        enqueue_failure(alloc, run, SharedBytes::empty())?;
     }
     put(run, own_id(node), value);
     Ok(())

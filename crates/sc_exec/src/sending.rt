@@ -20,7 +20,7 @@ use crate::events::{enqueue, event_name};
 use crate::receiver::{Receiver, target_of};
 use crate::running::Running;
 use crate::values::{text_or_none, value_of};
-use sc_base::{Bytes, Failure, Name, NoMemory, SmallBytes, TextWriter, Word, is_word};
+use sc_base::{Bytes, Failure, Name, NoMemory, SharedBytes, TextWriter, Word, is_word};
 use sc_eval::Env;
 use sc_types::{Attribute, Data, EVENT_NAME_LIMIT, Effect, Event, Kind, Node, To, Value};
 use std::alloc::Global;
@@ -77,14 +77,14 @@ struct Posted {
 }
 
 /// The `id` of a send, which is empty where it has none.
-fn own_id(alloc: Global, node: &Node) -> Result<SmallBytes, NoMemory>
+fn own_id(alloc: Global, node: &Node) -> Result<SharedBytes, NoMemory>
     ensures { IfOk result (λ id. id ≡ text_or_none attribute.Id (members_of node.now)) }
 {
-    SmallBytes::from_slice(alloc, text_or_none(node, Attribute::Id))
+    SharedBytes::from_slice(alloc, text_or_none(node, Attribute::Id))
 }
 
 /// The fault of a send, which tells its `id`. SCXML 6.2.3.
-fn send_fault(alloc: Global, node: &Node) -> Failure<SmallBytes>
+fn send_fault(alloc: Global, node: &Node) -> Failure<SharedBytes>
     ensures { TellsId result (members_of node.now) }
 {
     match own_id(alloc, node) {
@@ -122,19 +122,19 @@ fn checked(alloc: Global, run: &mut Running, node: &Node) -> Result<Option<Poste
 }
 
 /// `#_scxml_` and the session's name.
-fn origin(alloc: Global, session: &Word) -> Result<SmallBytes, NoMemory>
+fn origin(alloc: Global, session: &Word) -> Result<SharedBytes, NoMemory>
     ensures { IfOk result (λ origin. origin ≡ codes "#_scxml_" ++ session.now) }
 {
     let mut text = TextWriter::new(alloc);
     text.text("#_scxml_")?;
     text.bytes(session.bytes())?;
-    SmallBytes::from_slice(alloc, text.slice())
+    SharedBytes::from_slice(alloc, text.slice())
 }
 
 /// Puts the event into the internal queue at once.
 fn post_inside(
     run: &mut Running,
-    sendid: SmallBytes,
+    sendid: SharedBytes,
     name: Name,
     payload: Data,
 ) -> Result<(), NoMemory>
@@ -147,9 +147,9 @@ fn post_inside(
         name,
         kind: Kind::Internal,
         sendid,
-        origin: SmallBytes::empty(),
-        origintype: SmallBytes::empty(),
-        invokeid: SmallBytes::empty(),
+        origin: SharedBytes::empty(),
+        origintype: SharedBytes::empty(),
+        invokeid: SharedBytes::empty(),
         payload,
     };
     enqueue(run, event)
@@ -159,7 +159,7 @@ fn post_inside(
 fn sent_event(
     alloc: Global,
     session: &Word,
-    sendid: SmallBytes,
+    sendid: SharedBytes,
     name: Name,
     payload: Data,
 ) -> Result<Event, NoMemory>
@@ -172,22 +172,22 @@ fn sent_event(
         sendid,
         origin: origin(alloc, session)?,
         origintype: origin_type(alloc)?,
-        invokeid: SmallBytes::empty(),
+        invokeid: SharedBytes::empty(),
         payload,
     })
 }
 
-fn origin_type(alloc: Global) -> Result<SmallBytes, NoMemory>
+fn origin_type(alloc: Global) -> Result<SharedBytes, NoMemory>
     ensures { IfOk result (λ text. text ≡ processor) }
 {
-    SmallBytes::from_slice(alloc, PROCESSOR.as_bytes())
+    SharedBytes::from_slice(alloc, PROCESSOR.as_bytes())
 }
 
 /// Asks the host to deliver the event.
 fn post_outside(
     alloc: Global,
     run: &mut Running,
-    sendid: SmallBytes,
+    sendid: SharedBytes,
     name: Name,
     to: To,
     delay: u64,
@@ -211,7 +211,7 @@ fn add_effect(run: &mut Running, effect: Effect) -> Result<(), NoMemory>
 fn post(
     alloc: Global,
     run: &mut Running,
-    sendid: SmallBytes,
+    sendid: SharedBytes,
     posted: Posted,
 ) -> Result<(), NoMemory>
     ensures ok { OnOk result (post sendid posted.name (receiver_as posted.receiver) posted.delay posted.payload
@@ -231,13 +231,13 @@ fn post(
 }
 
 /// `send.N`.
-fn made_id(alloc: Global, number: u64) -> Result<SmallBytes, NoMemory>
+fn made_id(alloc: Global, number: u64) -> Result<SharedBytes, NoMemory>
     ensures { IfOk result (λ id. id ≡ codes "send." ++ decimal number) }
 {
     let mut text = TextWriter::new(alloc);
     text.text("send.")?;
     text.number(number as u128)?;
-    SmallBytes::from_slice(alloc, text.slice())
+    SharedBytes::from_slice(alloc, text.slice())
 }
 
 /// Writes the id that is made; only an id that was written is counted.
@@ -263,7 +263,7 @@ fn post_made(
     node: &Node,
     place: &[u8],
     posted: Posted,
-) -> Result<(), Failure<SmallBytes>>
+) -> Result<(), Failure<SharedBytes>>
     ensures outcome { Does result run.new (post_made (members_of node.now) place.now posted.name
         (receiver_as posted.receiver) posted.delay posted.payload (running_of run.old)) }
     ensures kept { KeepsRows run.old run.new }
@@ -284,7 +284,7 @@ fn send_with(
     run: &mut Running,
     node: &Node,
     posted: Posted,
-) -> Result<(), Failure<SmallBytes>>
+) -> Result<(), Failure<SharedBytes>>
     ensures outcome { Does result run.new (send_with (members_of node.now) posted.name
         (receiver_as posted.receiver) posted.delay posted.payload (running_of run.old)) }
     ensures kept { KeepsRows run.old run.new }
@@ -298,7 +298,7 @@ fn send_with(
 
 /// SCXML 6.2.
 #[tactic(auto, unfolding(sc_law::specs::Sending::send))]
-pub(crate) fn send(alloc: Global, run: &mut Running, node: &Node) -> Result<(), Failure<SmallBytes>>
+pub(crate) fn send(alloc: Global, run: &mut Running, node: &Node) -> Result<(), Failure<SharedBytes>>
     requires { HasIds run.old.env }
     ensures outcome { Does result run.new (send (members_of node.now) (children_of node.now) (running_of run.old)) }
     ensures kept { KeepsRows run.old run.new }

@@ -9,16 +9,16 @@ ghost use Rattle.sc_exec.specs.Runs.{running_of, KeepsRows, Does};
 ghost use Rattle.sc_exec.specs.Values.{value_at, Finds};
 
 use crate::running::Running;
-use sc_base::{Failure, NoMemory, PlainName, SmallBytes};
+use sc_base::{Failure, NoMemory, PlainName, SharedBytes};
 use sc_eval::{Env, EvalFault, eval};
 use sc_types::{Attribute, Expr, Node, Value};
 use std::alloc::Global;
 
 /// The fault of an element that is no send.
-pub(crate) fn fault() -> Failure<SmallBytes>
+pub(crate) fn fault() -> Failure<SharedBytes>
     ensures { result ≡ Failure.Fault [] }
 {
-    Failure::Fault(SmallBytes::empty())
+    Failure::Fault(SharedBytes::empty())
 }
 
 /// The text of an attribute, which is empty where the element has none.
@@ -50,7 +50,7 @@ pub(crate) fn needed(
     env: &Env,
     node: &Node,
     attribute: Attribute,
-) -> Result<Value, Failure<SmallBytes>>
+) -> Result<Value, Failure<SharedBytes>>
     requires { HasIds env.now }
     ensures { Finds result (value_at attribute (members_of node.now) (env_of env.now)) }
 {
@@ -64,7 +64,7 @@ pub(crate) fn needed(
 }
 
 /// Gives a datum a value. SCXML 5.4.
-pub(crate) fn write(run: &mut Running, name: &[u8], value: Value) -> Result<(), Failure<SmallBytes>>
+pub(crate) fn write(run: &mut Running, name: &[u8], value: Value) -> Result<(), Failure<SharedBytes>>
     ensures outcome { Does result run.new (write name.now value (running_of run.old)) }
     ensures kept { KeepsRows run.old run.new }
 {
@@ -90,7 +90,7 @@ pub(crate) fn declare(
     alloc: Global,
     run: &mut Running,
     text: &[u8],
-) -> Result<(), Failure<SmallBytes>>
+) -> Result<(), Failure<SharedBytes>>
     ensures outcome { Does result run.new (declared text.now (running_of run.old)) }
     ensures kept { KeepsRows run.old run.new }
 {

@@ -2,7 +2,7 @@ ghost use Rattle.std.specs.Prelude.{◌<◌, ℕ, IfOk};
 ghost use Rattle.std.specs.Arc.{arc_value};
 ghost use Rattle.sc_eval.specs.Envs.{AreWithin, HasIds};
 
-use sc_base::{Bytes, NoMemory, Queue, Sequence, SmallBytes, Word};
+use sc_base::{Bytes, NoMemory, Queue, Sequence, SharedBytes, Word};
 use sc_bits::Row;
 use sc_eval::{DataTable, Env, Ids};
 use sc_exec::{Running, first_data};
@@ -23,7 +23,7 @@ fn add_id(alloc: Global, ids: &mut Ids, states: &[Node], place: u32) -> Result<(
     let Some(id) = id_at(states, place) else {
         return Ok(());
     };
-    let id = SmallBytes::from_slice(alloc, id)?;
+    let id = SharedBytes::from_slice(alloc, id)?;
     ids.add(id, place)
 }
 

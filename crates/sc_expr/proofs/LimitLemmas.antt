@@ -8,6 +8,7 @@ use Rattle.std.proofs.lemmas.List.Folds.{list_all-append}
 use Rattle.std.proofs.lemmas.Str.{IsUtf8-from_ascii, is_utf8-from_IsUtf8}
 use Rattle.std.proofs.lemmas.Str.Ascii.{IsAscii-from_all}
 use Rattle.sc_base.specs.Text.{is_digit, is_text, is_text_byte, is_plain_name}
+use Rattle.sc_types.specs.Profiles.{plain}
 use Rattle.sc_types.specs.Tokens.{Read, bad, op_at, mark_at, read_mark, read_sign, is_word_byte, number_of, positive, run_token, read_token, read_run, is_quote, quoted, read_quoted, first_token, without_white, tokens_step, tokens_up_to, tokens}
 use Rattle.sc_types.specs.Expressions.{is_one_word, has_plain_names, is_natural, fits_step, has_fit_leaves, IsExpr, Spells, looser, two, negated, minus, item, brackets, no_items, listed, len, as_text, active, active_name, yes_word, no_word, number, literal, datum, one_word, payload_of, SpellsItems, last, more, IsExpression}
 use Rattle.sc_types.specs.declared.expr.EventField.{EventField}
@@ -54,7 +55,7 @@ fit-run : (text : List ℕ) → is_fit (read_run text).0 ≡ true
 fit-run text =
     fit-read_token (run_token (take_while is_word_byte text)) (drop (prefix_len is_word_byte text) text) (fit-run_token (take_while is_word_byte text))
 
-fit-quoted : (q : Option (List ℕ × List ℕ)) → is_fit (read_quoted q).0 ≡ true
+fit-quoted : (q : Option (List ℕ × List ℕ)) → is_fit (read_quoted plain q).0 ≡ true
 fit-quoted None = refl
 fit-quoted (Some q) = by (is_text q.0) refl
   where
@@ -75,21 +76,21 @@ fit-choice q r s true v a b c = a
 fit-choice q r s false true a b c = b
 fit-choice q r s false false a b c = c
 
-fit-first : (b : ℕ) (rest : List ℕ) → is_fit (first_token false b rest).0 ≡ true
+fit-first : (b : ℕ) (rest : List ℕ) → is_fit (first_token plain false b rest).0 ≡ true
 unfolding first_token
 fit-first b rest =
-    fit-choice (read_quoted (quoted b rest)) (read_run (b ∷ rest)) (read_sign (b ∷ rest) (op_at (b ∷ rest))) (is_quote b) (is_word_byte b)
+    fit-choice (read_quoted plain (quoted b rest)) (read_run (b ∷ rest)) (read_sign (b ∷ rest) (op_at (b ∷ rest))) (is_quote b) (is_word_byte b)
     (fit-quoted (quoted b rest)) (fit-run (b ∷ rest)) (fit-sign (b ∷ rest) (op_at (b ∷ rest)))
 
-fit-step : (later : List ℕ → List Token) → ((text : List ℕ) → list_all is_fit (later text) ≡ true) → (text : List ℕ) → list_all is_fit (tokens_step false later text) ≡ true
+fit-step : (later : List ℕ → List Token) → ((text : List ℕ) → list_all is_fit (later text) ≡ true) → (text : List ℕ) → list_all is_fit (tokens_step plain false later text) ≡ true
 fit-step later fit [] = refl
-fit-step later fit (b ∷ rest) = and_from _ _ (fit-first b rest) (fit (first_token false b rest).1)
+fit-step later fit (b ∷ rest) = and_from _ _ (fit-first b rest) (fit (first_token plain false b rest).1)
 
-fit-up_to : (most : ℕ) (text : List ℕ) → list_all is_fit (tokens_up_to most false text) ≡ true
+fit-up_to : (most : ℕ) (text : List ℕ) → list_all is_fit (tokens_up_to most plain false text) ≡ true
 fit-up_to zero text = refl
-fit-up_to (suc most) text = fit-step (tokens_up_to most false) (fit-up_to most) (without_white text)
+fit-up_to (suc most) text = fit-step (tokens_up_to most plain false) (fit-up_to most) (without_white text)
 
-fit-tokens : (text : List ℕ) → list_all is_fit (tokens false text) ≡ true
+fit-tokens : (text : List ℕ) → list_all is_fit (tokens plain false text) ≡ true
 unfolding tokens
 fit-tokens text = fit-up_to (length text) text
 
@@ -163,5 +164,5 @@ mutual
       and_from _ _ (fit_leaves d both.0) (fit_items ds both.1)
 
 -- what a text spells is within the limits
-pub within_limits : (text : List ℕ) (e : Expr) → IsExpression text e → IsExpr e
+pub within_limits : (text : List ℕ) (e : Expr) → IsExpression plain text e → IsExpr e
 within_limits text e is = record { shallow = is.shallow; leaves = fit_leaves is.spelled (fit-tokens text) }

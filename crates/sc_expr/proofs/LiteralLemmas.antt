@@ -5,6 +5,7 @@ use Rattle.std.proofs.lemmas.List.{take_more, map-append, length-map, length-tak
 use Rattle.std.specs.Fmt.{signed_decimal}
 use Rattle.std.specs.Prelude.{option_map, option_and_then, ℤ, codes, map}
 use Rattle.std.proofs.lemmas.Option.{some_pair_parts}
+use Rattle.sc_types.specs.Profiles.{plain}
 use Rattle.sc_types.specs.Tokens.{tokens}
 use Rattle.sc_types.specs.Values.{is_trimmed, value_of, literal_value, item_of, further_items, value_text, truth_text, text_literal, joined, value_step}
 use Rattle.sc_types.specs.declared.token.Mark.TheVariants.{Comma}
@@ -17,7 +18,7 @@ use Rattle.sc_types.specs.declared.value.Value.TheVariants.{Bool as Truth, Int, 
 use Rattle.sc_expr.specs.Literals.{first_item, separated, comma}
 
 -- a text without white space round it is the literal of its tokens
-pub literal_trimmed : (text : List ℕ) → is_trimmed text ≡ true → literal_value text ≡ value_of (tokens true text)
+pub literal_trimmed : (text : List ℕ) → is_trimmed text ≡ true → literal_value text ≡ value_of (tokens plain true text)
 unfolding literal_value
 literal_trimmed text h = rw h
 

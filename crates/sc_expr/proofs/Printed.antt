@@ -3,6 +3,7 @@ use Rattle.std.proofs.Common.{◌≡◌, ℕ, zero, suc, ◌+◌, ◌<◌, ◌�
 use Rattle.std.specs.List.{list_all, AllByRecursion}
 use Rattle.std.proofs.lemmas.Bool.{and_parts, ltb-true}
 use Rattle.sc_base.specs.Text.{is_text, is_plain_name, starts_with_letter}
+use Rattle.sc_types.specs.Profiles.{plain}
 use Rattle.sc_types.specs.Tokens.{is_word_byte}
 use Rattle.sc_types.specs.Values.{joined}
 use Rattle.sc_types.specs.Expressions.{looseness, left_of, is_one_word, is_datum, has_plain_names, deepest, depth_step, depth, field_text, is_natural, fits_step, has_fit_leaves, IsExpr, expr_step, expr_text, Spells, looser, two, negated, minus, item, brackets, no_items, listed, len, as_text, active, yes_word, no_word, number, literal, datum, one_word, payload_of, SpellsItems, last, more, IsExpression}
@@ -239,7 +240,7 @@ every_printed = ind-Expr IsPrinted (λ x y is.
     subst (λ z. IsPrinted (roll-Expr z)) is (λ fine. layer_printed y (sym (fold-roll-Expr Bool fits_step (map-Expr Known Expr (λ e. e.0) y)) ∙ fine)))
 
 -- what is printed of an expression spells it
-pub printed_is_expression : (e : Expr) → IsExpr e → IsExpression (expr_text e) e
+pub printed_is_expression : (e : Expr) → IsExpr e → IsExpression plain (expr_text e) e
 unfolding IsPrinted
 printed_is_expression e is =
     let p = every_printed e is.leaves in

@@ -5,6 +5,7 @@ use Rattle.std.proofs.lemmas.Bool.{true≢false, ne_eqb, lt-ltb, le-leb, cases_e
 use Rattle.std.proofs.lemmas.Bool.Decides.{nat_tests}
 use Rattle.std.proofs.lemmas.Slice.Eq.{bytes_eq-Decides}
 use Rattle.std.proofs.lemmas.Fmt.{decimal_is_IsNumeral, decimal_by_steps}
+use Rattle.sc_types.specs.Profiles.{plain}
 use Rattle.sc_types.specs.Descriptors.{is_white_space}
 use Rattle.sc_base.specs.Text.{is_letter, is_digit, is_text, is_text_byte, starts_with_letter}
 use Rattle.sc_types.specs.Tokens.{op_text, mark_text, Read, is_word_byte, is_quote, number_of, positive, negative, run_token, read_token, read_quoted, read_sign, bad, before, is_plain_byte, quoted, first_token, tokens, tokens_step}
@@ -21,16 +22,16 @@ use Rattle.sc_expr.proofs.LexingLemmas.{tokens_next, tokens_none}
 
 -- a byte with which a token begins
 first_is : (signed : Bool) (b : ℕ) (text : List ℕ) (t : Token) (rest : List ℕ) → is_white_space b ≡ false
-    → first_token signed b text ≡ (t, rest) → tokens signed (b ∷ text) ≡ t ∷ tokens signed rest
+    → first_token plain signed b text ≡ (t, rest) → tokens plain signed (b ∷ text) ≡ t ∷ tokens plain signed rest
 first_is signed b text t rest dark e =
     tokens_next signed (b ∷ text)
-    ∙ ap (λ (c : Bool). tokens_step signed (tokens signed) (drop (cond c (1 + prefix_len is_white_space text) 0) (b ∷ text))) dark
-    ∙ ap (λ (r : Read). r.0 ∷ tokens signed r.1) e
+    ∙ ap (λ (c : Bool). tokens_step plain signed (tokens plain signed) (drop (cond c (1 + prefix_len is_white_space text) 0) (b ∷ text))) dark
+    ∙ ap (λ (r : Read). r.0 ∷ tokens plain signed r.1) e
 
-space_tokens : (signed : Bool) (text : List ℕ) → tokens signed (32 ∷ text) ≡ tokens signed text
+space_tokens : (signed : Bool) (text : List ℕ) → tokens plain signed (32 ∷ text) ≡ tokens plain signed text
 space_tokens signed text =
     tokens_next signed (32 ∷ text)
-    ∙ ap (λ n. tokens_step signed (tokens signed) (drop n (32 ∷ text))) (one-add (prefix_len is_white_space text))
+    ∙ ap (λ n. tokens_step plain signed (tokens plain signed) (drop n (32 ∷ text))) (one-add (prefix_len is_white_space text))
     ∙ sym (tokens_next signed text)
 
 -- signs
@@ -40,7 +41,7 @@ abbrev pub stands_alone : Mark → Bool
 stands_alone Not = false
 stands_alone m = true
 
-mark_first : (signed : Bool) (m : Mark) (text : List ℕ) → stands_alone m ≡ true → tokens signed (mark_text m ++ text) ≡ Sign m ∷ tokens signed text
+mark_first : (signed : Bool) (m : Mark) (text : List ℕ) → stands_alone m ≡ true → tokens plain signed (mark_text m ++ text) ≡ Sign m ∷ tokens plain signed text
 unfolding first_token
 mark_first signed Not text alone = absurd (cc)
 mark_first true Open text alone = first_is true _ _ _ _ refl refl
@@ -58,7 +59,7 @@ mark_first false Dot text alone = first_is false _ _ _ _ refl refl
 
 -- a sign
 pub mark_tokens : (signed : Bool) (m : Mark) (text : List ℕ) {ts : List Token} → stands_alone m ≡ true
-    → tokens signed text ≡ ts → tokens signed (mark_text m ++ text) ≡ Sign m ∷ ts
+    → tokens plain signed text ≡ ts → tokens plain signed (mark_text m ++ text) ≡ Sign m ∷ ts
 mark_tokens signed m text alone go = mark_first signed m text alone ∙ ap (λ us. Sign m ∷ us) go
 
 -- a text that does not make `!=` of `!`
@@ -66,26 +67,26 @@ abbrev pub FollowsBang : List ℕ → Type 0
 FollowsBang [] = ⊥
 FollowsBang (b ∷ text) = (61 == b) ≡ false
 
-bang_first : (text : List ℕ) → FollowsBang text → tokens false (33 ∷ text) ≡ Sign Not ∷ tokens false text
+bang_first : (text : List ℕ) → FollowsBang text → tokens plain false (33 ∷ text) ≡ Sign Not ∷ tokens plain false text
 unfolding first_token
 bang_first [] follows = absurd follows
 bang_first (b ∷ text) follows =
     first_is false 33 (b ∷ text) (Sign Not) (b ∷ text) refl (ap (λ (c : Bool). read_sign (33 ∷ b ∷ text) (cond (c && true) (Some Ne) None)) follows)
 
 -- `!`
-pub bang_tokens : (text : List ℕ) {ts : List Token} → FollowsBang text → tokens false text ≡ ts → tokens false (33 ∷ text) ≡ Sign Not ∷ ts
+pub bang_tokens : (text : List ℕ) {ts : List Token} → FollowsBang text → tokens plain false text ≡ ts → tokens plain false (33 ∷ text) ≡ Sign Not ∷ ts
 bang_tokens text follows go = bang_first text follows ∙ ap (λ us. Sign Not ∷ us) go
 
-minus_first : (text : List ℕ) → tokens false (45 ∷ text) ≡ Operator Sub ∷ tokens false text
+minus_first : (text : List ℕ) → tokens plain false (45 ∷ text) ≡ Operator Sub ∷ tokens plain false text
 unfolding first_token
 minus_first text = first_is false 45 text (Operator Sub) text refl refl
 
 -- `-`, where it is an operator
-pub minus_tokens : (text : List ℕ) {ts : List Token} → tokens false text ≡ ts → tokens false (45 ∷ text) ≡ Operator Sub ∷ ts
+pub minus_tokens : (text : List ℕ) {ts : List Token} → tokens plain false text ≡ ts → tokens plain false (45 ∷ text) ≡ Operator Sub ∷ ts
 minus_tokens text go = minus_first text ∙ ap (λ us. Operator Sub ∷ us) go
 
 -- an operator before a space
-operator_first : (op : Op) (text : List ℕ) → tokens false (op_text op ++ 32 ∷ text) ≡ Operator op ∷ tokens false (32 ∷ text)
+operator_first : (op : Op) (text : List ℕ) → tokens plain false (op_text op ++ 32 ∷ text) ≡ Operator op ∷ tokens plain false (32 ∷ text)
 unfolding first_token
 operator_first Or text = first_is false _ _ _ _ refl refl
 operator_first And text = first_is false _ _ _ _ refl refl
@@ -102,7 +103,7 @@ operator_first Div text = first_is false _ _ _ _ refl refl
 operator_first Rem text = first_is false _ _ _ _ refl refl
 
 -- an operator between spaces
-pub operator_tokens : (op : Op) (text : List ℕ) {ts : List Token} → tokens false text ≡ ts → tokens false (32 ∷ op_text op ++ 32 ∷ text) ≡ Operator op ∷ ts
+pub operator_tokens : (op : Op) (text : List ℕ) {ts : List Token} → tokens plain false text ≡ ts → tokens plain false (32 ∷ op_text op ++ 32 ∷ text) ≡ Operator op ∷ ts
 operator_tokens op text go =
     space_tokens false (op_text op ++ 32 ∷ text) ∙ operator_first op text ∙ ap (λ us. Operator op ∷ us) (space_tokens false text ∙ go)
 
@@ -115,10 +116,10 @@ EndsRun (b ∷ text) = is_word_byte b ≡ false
 
 -- a text that is read as these tokens, unless its last run goes on
 pub record ReadsAs (signed : Bool) (text : List ℕ) (ts : List Token) : Type 0 where
-  pub before : (rest : List ℕ) → {us : List Token} → EndsRun rest → tokens signed rest ≡ us → tokens signed (text ++ rest) ≡ ts ++ us
+  pub before : (rest : List ℕ) → {us : List Token} → EndsRun rest → tokens plain signed rest ≡ us → tokens plain signed (text ++ rest) ≡ ts ++ us
 
 -- a text of these tokens is read as them, where nothing stands behind it
-pub reads_alone : {signed : Bool} {text : List ℕ} {ts : List Token} → ReadsAs signed text ts → tokens signed text ≡ ts
+pub reads_alone : {signed : Bool} {text : List ℕ} {ts : List Token} → ReadsAs signed text ts → tokens plain signed text ≡ ts
 reads_alone {signed} r = simp append-nil at (r.before [] tt (tokens_none signed [] refl))
 
 -- how long a run is
@@ -156,7 +157,7 @@ word_is_not_white b word =
 
 -- a run whose token is no bad one
 run_tokens : (signed : Bool) (b : ℕ) (w text : List ℕ) (t : Token) → list_all is_word_byte (b ∷ w) ≡ true → EndsRun text
-    → read_token (run_token (b ∷ w)) text ≡ (t, text) → tokens signed (b ∷ w ++ text) ≡ t ∷ tokens signed text
+    → read_token (run_token (b ∷ w)) text ≡ (t, text) → tokens plain signed (b ∷ w ++ text) ≡ t ∷ tokens plain signed text
 unfolding first_token
 run_tokens signed b w text t all ends good =
     let word = (and_parts (is_word_byte b) (list_all is_word_byte w) all).0 in
@@ -168,7 +169,7 @@ letter_is_no_digit b letter = grind (arith, nat_tests)
 
 -- a word
 pub word_tokens : (signed : Bool) (w : List ℕ) (text : List ℕ) {ts : List Token} → starts_with_letter w ≡ true → list_all is_word_byte w ≡ true → EndsRun text
-    → tokens signed text ≡ ts → tokens signed (w ++ text) ≡ Word w ∷ ts
+    → tokens plain signed text ≡ ts → tokens plain signed (w ++ text) ≡ Word w ∷ ts
 word_tokens signed [] text letter all ends go = absurd (cc)
 word_tokens signed (b ∷ w) text letter all ends go =
     run_tokens signed b w text (Word (b ∷ w)) all ends (rw (letter_is_no_digit b letter)) ∙ ap (λ us. Word (b ∷ w) ∷ us) go
@@ -212,7 +213,7 @@ digits_token (d ∷ ds) n digits e small =
     ∙ ap positive e ∙ cond-true (nat_lt n (2 ^ 63)) _ _ (lt-ltb n (2 ^ 63) small)
 
 digits_tokens : (signed : Bool) (ds text : List ℕ) (n : ℕ) → IsDigits ds → number_of ds ≡ Some n → n < 2 ^ 63 → EndsRun text
-    → tokens signed (ds ++ text) ≡ Number (pos n) ∷ tokens signed text
+    → tokens plain signed (ds ++ text) ≡ Number (pos n) ∷ tokens plain signed text
 digits_tokens signed [] text n digits e small ends = absurd (omega (arith, digits.1))
 digits_tokens signed (d ∷ ds) text n digits e small ends =
     run_tokens signed d ds text (Number (pos n)) (digits_are_words (d ∷ ds) digits.0) ends
@@ -220,13 +221,13 @@ digits_tokens signed (d ∷ ds) text n digits e small ends =
 
 -- a natural number
 pub number_tokens : (signed : Bool) (n : ℕ) (text : List ℕ) {ts : List Token} → n < 2 ^ 63 → EndsRun text
-    → tokens signed text ≡ ts → tokens signed (decimal n ++ text) ≡ Number (pos n) ∷ ts
+    → tokens plain signed text ≡ ts → tokens plain signed (decimal n ++ text) ≡ Number (pos n) ∷ ts
 number_tokens signed n text small ends go =
     digits_tokens signed (decimal n) text n (decimal_digits n (omega arith)) (number_of-decimal n (omega arith)) small ends ∙ ap (λ us. Number (pos n) ∷ us) go
 
 -- digits behind a `-`
 negative_read : (ds text : List ℕ) (n : ℕ) → IsDigits ds → number_of ds ≡ Some (suc n) → n < 2 ^ 63 → EndsRun text
-    → first_token true 45 (ds ++ text) ≡ (Number (negsuc n), text)
+    → first_token plain true 45 (ds ++ text) ≡ (Number (negsuc n), text)
 unfolding first_token
 negative_read [] text n digits e small ends = absurd (omega (arith, digits.1))
 negative_read (d ∷ ds) text n digits e small ends =
@@ -240,7 +241,7 @@ negative_read (d ∷ ds) text n digits e small ends =
 
 -- a negative number, where numbers may be signed
 pub negative_tokens : (n : ℕ) (text : List ℕ) {ts : List Token} → n < 2 ^ 63 → EndsRun text
-    → tokens true text ≡ ts → tokens true (45 ∷ decimal (suc n) ++ text) ≡ Number (negsuc n) ∷ ts
+    → tokens plain true text ≡ ts → tokens plain true (45 ∷ decimal (suc n) ++ text) ≡ Number (negsuc n) ∷ ts
 negative_tokens n text small ends go =
     first_is true 45 (decimal (suc n) ++ text) (Number (negsuc n)) text refl
     (negative_read (decimal (suc n)) text n (decimal_digits (suc n) (omega arith)) (number_of-decimal (suc n) (omega arith)) small ends)
@@ -290,10 +291,10 @@ quoted_text (b ∷ t) text all =
 
 -- a quoted text
 pub text_tokens : (signed : Bool) (t : List ℕ) (text : List ℕ) {ts : List Token} → is_text t ≡ true
-    → tokens signed text ≡ ts → tokens signed (39 ∷ flat_map escaped t ++ 39 ∷ text) ≡ Text t ∷ ts
+    → tokens plain signed text ≡ ts → tokens plain signed (39 ∷ flat_map escaped t ++ 39 ∷ text) ≡ Text t ∷ ts
 unfolding first_token
 text_tokens signed t text fine go =
     let all = (and_parts _ (list_all is_text_byte t) fine).1 in
     first_is signed 39 (flat_map escaped t ++ 39 ∷ text) (Text t) text refl
-    (ap read_quoted (quoted_text t text all) ∙ ap (λ (c : Bool). if c then (Text t, text) else bad) fine)
+    (ap (read_quoted plain) (quoted_text t text all) ∙ ap (λ (c : Bool). if c then (Text t, text) else bad) fine)
     ∙ ap (λ us. Text t ∷ us) go

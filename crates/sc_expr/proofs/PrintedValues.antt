@@ -4,6 +4,7 @@ use Rattle.std.specs.Prelude.{option_map, option_and_then}
 use Rattle.std.specs.List.{list_all, AllByRecursion}
 use Rattle.std.proofs.lemmas.Bool.{and_parts, and_from, not_from_false, ltb-true, cond-true}
 use Rattle.std.proofs.lemmas.List.{get_or_push, length_push}
+use Rattle.sc_types.specs.Profiles.{plain}
 use Rattle.sc_types.specs.Descriptors.{is_white_space}
 use Rattle.sc_base.specs.Text.{is_text, is_int}
 use Rattle.sc_types.specs.Tokens.{is_word_byte, tokens}
@@ -123,7 +124,7 @@ items_cons v vs o os e f = ap₂ (λ p q. option_and_then (λ w. option_map (λ 
 -- the items of a list, up to the bracket that closes it
 record PrintedItems (v : Value) (vs : List Value) (first : Token) : Type 0 where
   later : List Token
-  read : tokens true (joined (map value_text (v ∷ vs)) ++ 93 ∷ []) ≡ first ∷ later
+  read : tokens plain true (joined (map value_text (v ∷ vs)) ++ 93 ∷ []) ≡ first ∷ later
   is : further_items later ≡ Some vs
 
 printed_items : (v : Value) (vs : List Value) (p : PrintedItem v) → AllByRecursion PrintedItem vs → PrintedItems v vs p.token
@@ -143,7 +144,7 @@ printed_items v (w ∷ vs) p ps =
 -- every value
 
 -- a text without white space round it is read by its tokens
-literal_by : (text : List ℕ) (v : Value) (ts : List Token) → is_trimmed text ≡ true → tokens true text ≡ ts → value_of ts ≡ Some v → literal_value text ≡ Some v
+literal_by : (text : List ℕ) (v : Value) (ts : List Token) → is_trimmed text ≡ true → tokens plain true text ≡ ts → value_of ts ≡ Some v → literal_value text ≡ Some v
 unfolding literal_value
 literal_by text v ts trimmed read is = cond-true (is_trimmed text) _ _ trimmed ∙ ap value_of read ∙ is
 

@@ -1,9 +1,10 @@
 -- How the texts of expressions are read. `read_expr` says that this is the grammar's reading.
 use Rattle.std.specs.Prelude.{ℕ, Option, List, false}
+use Rattle.sc_types.specs.Profiles.{Profile}
 use Rattle.sc_types.specs.Tokens.{tokens}
 use Rattle.sc_types.specs.declared.expr.Expr.{Expr}
 use Rattle.sc_expr.specs.Descent.{expression_of}
 
--- the expression that a text spells
-unfoldable pub expr_of : List ℕ → Option Expr
-expr_of text = expression_of (tokens false text)
+-- the expression that a text spells in a profile
+unfoldable pub expr_of : Profile → List ℕ → Option Expr
+expr_of profile text = expression_of (tokens profile false text)

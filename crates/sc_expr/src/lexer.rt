@@ -1,5 +1,6 @@
 ghost use Rattle.std.specs.Prelude.{◌≡◌, ◌<◌, ◌==◌, ◌&&◌, [], ◌∷◌, length, drop, slice_index, option_map, IfOk, OnErr, MatchOption};
 ghost use Rattle.std.specs.List.{take_while, prefix_len};
+ghost use Rattle.sc_types.specs.Profiles.{plain};
 ghost use Rattle.sc_types.specs.Descriptors.{is_white_space};
 ghost use Rattle.sc_base.specs.Text.{is_digit};
 ghost use Rattle.sc_types.specs.Tokens.{tokens, op_text, mark_text, op_at, mark_at, bad, read_sign, is_word_byte, run_token, read_token, read_run, read_negative, escape, is_quote, is_plain_byte, quoted, read_quoted, first_token, without_white};
@@ -20,17 +21,18 @@ pub(crate) struct Lexer<'a> {
 
 impl<'a> Model for Lexer<'a> {
     ghost use Rattle.std.specs.Prelude.{List};
+    ghost use Rattle.sc_types.specs.Profiles.{plain};
     ghost use Rattle.sc_types.specs.Tokens.{tokens};
     ghost use Rattle.sc_types.specs.declared.token.Token.{Token};
 
     ghost Value = { List Token };
 
-    ghost view = { λ l. tokens l.signed l.rest.now };
+    ghost view = { λ l. tokens plain l.signed l.rest.now };
 }
 
 impl<'a> Lexer<'a> {
     pub(crate) fn new(text: &'a [u8], signed: bool) -> Lexer<'a>
-        ensures { result ≡ tokens signed text.now }
+        ensures { result ≡ tokens plain signed text.now }
     {
         Lexer { rest: text, signed }
     }
@@ -105,7 +107,7 @@ fn read_token(token: Token, behind: &[u8]) -> (Token, &[u8])
 fn first_token(alloc: Global, text: &[u8], signed: bool) -> Result<(Token, &[u8]), NoMemory>
     requires { 0 < length text.now }
     ensures { IfOk result (λ r. (r.0, r.1.now)
-        ≡ first_token signed (slice_index text.entry.now 0) (drop 1 text.entry.now)) }
+        ≡ first_token plain signed (slice_index text.entry.now 0) (drop 1 text.entry.now)) }
 {
     let first = text[0];
     let behind = &text[1..];
@@ -198,7 +200,7 @@ fn read_sign(text: &[u8]) -> (Token, &[u8])
 }
 
 fn read_quoted(alloc: Global, quote: u8, text: &[u8]) -> Result<(Token, &[u8]), NoMemory>
-    ensures { IfOk result (λ r. (r.0, r.1.now) ≡ read_quoted (quoted quote text.entry.now)) }
+    ensures { IfOk result (λ r. (r.0, r.1.now) ≡ read_quoted plain (quoted quote text.entry.now)) }
 {
     match quoted(alloc, quote, text)? {
         Some((content, behind)) if is_text(content.slice()) => Ok((Token::Text(content), behind)),

@@ -1,5 +1,6 @@
 ghost use Rattle.std.specs.Prelude.{◌≡◌, ◌≤◌, ◌==◌, true, false, codes, nat_lt, drop, length, [], ◌∷◌, ◌↔◌, IsTrue, IfOk, OnOk, MatchOption};
 ghost use Rattle.std.specs.Str.{bytes_eq};
+ghost use Rattle.sc_types.specs.Profiles.{plain};
 ghost use Rattle.sc_types.specs.Expressions.{IsExpr, IsExpression, IsReading, depth, looseness, repeats};
 ghost use Rattle.sc_base.specs.Text.{IsPlainName};
 ghost use Rattle.sc_types.specs.Tokens.{tokens};
@@ -26,12 +27,12 @@ const LOOSEST: u8 = 6;
 /// Reads an expression; `NotExpr` exactly where the text spells none.
 #[tactic(auto, using(crate::proofs::Whole::wholes))]
 pub fn read_expr(alloc: Global, text: &[u8]) -> Result<Expr, ExprFault>
-    ensures ok { IfOk result (IsExpression text.now) }
+    ensures ok { IfOk result (IsExpression plain text.now) }
     ensures limits { IfOk result IsExpr }
-    ensures only { IfOk result (λ e. (other : Expr) → IsExpression text.now other → other ≡ e) }
-    ensures refused { result ≡ Err ExprFault.NotExpr → (e : Expr) → ¬ IsExpression text.now e }
-    ensures value { IfOk result (λ e. expr_of text.now ≡ Some e) }
-    ensures none { result ≡ Err ExprFault.NotExpr → expr_of text.now ≡ None }
+    ensures only { IfOk result (λ e. (other : Expr) → IsExpression plain text.now other → other ≡ e) }
+    ensures refused { result ≡ Err ExprFault.NotExpr → (e : Expr) → ¬ IsExpression plain text.now e }
+    ensures value { IfOk result (λ e. expr_of plain text.now ≡ Some e) }
+    ensures none { result ≡ Err ExprFault.NotExpr → expr_of plain text.now ≡ None }
     ensures reading { IsReading expr_of }
 {
     let mut reader = Reader::new(alloc, text)?;
@@ -63,7 +64,7 @@ impl<'a> Model for Reader<'a> {
 
 impl<'a> Reader<'a> {
     fn new(alloc: Global, text: &'a [u8]) -> Result<Reader<'a>, NoMemory>
-        ensures { IfOk result (λ r. r ≡ tokens false text.now) }
+        ensures { IfOk result (λ r. r ≡ tokens plain false text.now) }
     {
         let mut lexer = Lexer::new(text, false);
         let next = lexer.next(alloc)?;

@@ -1,4 +1,4 @@
-use sc_base::{Bytes, Name, Plain, Queue, SmallBytes};
+use sc_base::{Bytes, Name, Plain, Queue, SharedBytes};
 use sc_types::{Data, Event, Kind};
 use std::alloc::Global;
 
@@ -8,10 +8,10 @@ pub fn event(alloc: Global, number: u128, name: &[u8]) -> Option<Event> {
         number,
         name: Name::of(alloc, name).ok()?,
         kind: Kind::External,
-        sendid: SmallBytes::empty(),
-        origin: SmallBytes::empty(),
-        origintype: SmallBytes::empty(),
-        invokeid: SmallBytes::empty(),
+        sendid: SharedBytes::empty(),
+        origin: SharedBytes::empty(),
+        origintype: SharedBytes::empty(),
+        invokeid: SharedBytes::empty(),
         payload: Data::Absent,
     })
 }

@@ -1,4 +1,4 @@
-use sc_base::{SmallBytes, Word};
+use sc_base::{SharedBytes, Word};
 use sc_family::{Family, Link};
 use std::alloc::Global;
 
@@ -6,7 +6,7 @@ fn link(alloc: Global, child: &str) -> Option<Link> {
     Some(Link {
         child: Word::of(alloc, child.as_bytes()).ok()?,
         invoker: Word::of(alloc, b"p").ok()?,
-        invokeid: SmallBytes::empty(),
+        invokeid: SharedBytes::empty(),
         depth: 2,
         cut: false,
     })

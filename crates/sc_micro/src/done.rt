@@ -14,7 +14,7 @@ ghost use Rattle.sc_micro.specs.Blocks.{done_kids};
 
 use crate::blocks::kids_of;
 use crate::finals::{is_final, is_in_final, is_parallel};
-use sc_base::{Name, NoMemory, SmallBytes, TextWriter};
+use sc_base::{Name, NoMemory, SharedBytes, TextWriter};
 use sc_exec::{Running, payload};
 use sc_tables::Tables;
 use sc_types::{Attribute, Data, Event, Kind, Node, Tag};
@@ -108,10 +108,10 @@ fn enqueue_done(
         number: 0,
         name: done_name(alloc, t, s)?,
         kind: Kind::Platform,
-        sendid: SmallBytes::empty(),
-        origin: SmallBytes::empty(),
-        origintype: SmallBytes::empty(),
-        invokeid: SmallBytes::empty(),
+        sendid: SharedBytes::empty(),
+        origin: SharedBytes::empty(),
+        origintype: SharedBytes::empty(),
+        invokeid: SharedBytes::empty(),
         payload,
     };
     run.internal.push(event)

@@ -1,4 +1,4 @@
-use sc_base::{SmallBytes, Word};
+use sc_base::{SharedBytes, Word};
 use sc_family::{Family, Link};
 use std::alloc::Global;
 use std::test::Fail;
@@ -7,7 +7,7 @@ fn link(alloc: Global, child: &[u8]) -> Result<Link, Fail> {
     Ok(Link {
         child: Word::of(alloc, child)?,
         invoker: Word::of(alloc, b"p")?,
-        invokeid: SmallBytes::from_slice(alloc, b"i")?,
+        invokeid: SharedBytes::from_slice(alloc, b"i")?,
         depth: 2,
         cut: false,
     })

@@ -1,5 +1,5 @@
 use sc_base::{
-    Bytes, Name, NoMemory, Plain, PlainName, Queue, Sequence, SmallBytes, TextWriter, Unfit, Word,
+    Bytes, Name, NoMemory, Plain, PlainName, Queue, Sequence, SharedBytes, TextWriter, Unfit, Word,
 };
 use sc_types::{
     Attribute, Chart, Command, Data, Entry, Event, Expr, Kind, LogLine, Member, Node, Reply, Tag,
@@ -12,8 +12,8 @@ fn bytes(alloc: Global, text: &str) -> Result<Bytes, NoMemory> {
     Bytes::from_slice(alloc, text.as_bytes())
 }
 
-fn small(alloc: Global, text: &str) -> Result<SmallBytes, NoMemory> {
-    SmallBytes::from_slice(alloc, text.as_bytes())
+fn small(alloc: Global, text: &str) -> Result<SharedBytes, NoMemory> {
+    SharedBytes::from_slice(alloc, text.as_bytes())
 }
 
 #[test]
@@ -75,7 +75,7 @@ fn bytes_are_copied_whole_at_each_length(rt: HostRuntime) -> Result<(), Fail> {
         grown.extend(text.as_bytes())?;
         assert_eq!(rt; grown.len(), 2 * text.len() + 1);
     }
-    assert!(rt; SmallBytes::empty().is_empty());
+    assert!(rt; SharedBytes::empty().is_empty());
     Ok(())
 }
 
@@ -107,7 +107,7 @@ fn event(alloc: Global, note: &str) -> Result<Event, Unfit> {
         sendid: small(alloc, "1")?,
         origin: small(alloc, "#_scxml_s")?,
         origintype: small(alloc, "scxml")?,
-        invokeid: SmallBytes::empty(),
+        invokeid: SharedBytes::empty(),
         payload: Data::Pairs(pairs),
     })
 }

@@ -1,6 +1,6 @@
 ghost use Rattle.std.specs.Prelude.{◌≡◌, IfOk};
 
-use sc_base::{Name, SmallBytes, Word};
+use sc_base::{Name, SharedBytes, Word};
 use sc_timers::{Timed, Timers};
 use sc_types::{Data, Event, Kind, To};
 use std::alloc::Global;
@@ -11,10 +11,10 @@ fn event(alloc: Global, sendid: &[u8]) -> Result<Event, Fail> {
         number: 0,
         name: Name::of(alloc, b"e")?,
         kind: Kind::External,
-        sendid: SmallBytes::from_slice(alloc, sendid)?,
-        origin: SmallBytes::empty(),
-        origintype: SmallBytes::empty(),
-        invokeid: SmallBytes::empty(),
+        sendid: SharedBytes::from_slice(alloc, sendid)?,
+        origin: SharedBytes::empty(),
+        origintype: SharedBytes::empty(),
+        invokeid: SharedBytes::empty(),
         payload: Data::Absent,
     })
 }

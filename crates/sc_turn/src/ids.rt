@@ -4,30 +4,30 @@ ghost use Rattle.sc_law.specs.Runs.{id_row, ids, state_id};
 ghost use Rattle.sc_law.specs.Tree.{state_count};
 ghost use Rattle.sc_law.specs.Kinds.{is_history};
 
-use sc_base::{NoMemory, SmallBytes, TextWriter};
+use sc_base::{NoMemory, SharedBytes, TextWriter};
 use sc_eval::Ids;
 use sc_tables::Tables;
 use sc_types::{Attribute, StateKind};
 use std::alloc::Global;
 
 /// The id of a state: its own, else `#` and its number.
-pub(crate) fn state_id(alloc: Global, t: &Tables, s: u32) -> Result<SmallBytes, NoMemory>
+pub(crate) fn state_id(alloc: Global, t: &Tables, s: u32) -> Result<SharedBytes, NoMemory>
     requires { s < state_count t.now }
     ensures { IfOk result (λ id. id ≡ state_id t.now s) }
 {
     match t.element(s).text(Attribute::Id) {
-        Some(id) => SmallBytes::from_slice(alloc, id),
+        Some(id) => SharedBytes::from_slice(alloc, id),
         None => made_id(alloc, s),
     }
 }
 
-fn made_id(alloc: Global, s: u32) -> Result<SmallBytes, NoMemory>
+fn made_id(alloc: Global, s: u32) -> Result<SharedBytes, NoMemory>
     ensures { IfOk result (λ id. id ≡ codes "#" ++ decimal s) }
 {
     let mut text = TextWriter::new(alloc);
     text.text("#")?;
     text.number(u128::from(s))?;
-    SmallBytes::from_slice(alloc, text.slice())
+    SharedBytes::from_slice(alloc, text.slice())
 }
 
 fn is_history(t: &Tables, s: u32) -> bool

@@ -15,7 +15,7 @@ ghost use Rattle.sc_law.specs.Runs.{failed};
 
 use crate::ids::state_id;
 use crate::run_state::RunState;
-use sc_base::{Bytes, NoMemory, Plain, SmallBytes, TextWriter, Word};
+use sc_base::{Bytes, NoMemory, Plain, SharedBytes, TextWriter, Word};
 use sc_exec::{Running, enqueue_failure, named_pairs, params};
 use sc_tables::Tables;
 use sc_types::{Attribute, Effect, Invoked, Node, PairList, Sequence, Tag, Value};
@@ -110,7 +110,7 @@ fn fail(alloc: Global, run: &mut Running) -> Result<(), NoMemory>
     ensures ok { OnOk result (failed [] (running_of run.old) ≡ running_of run.new) }
     ensures kept { KeepsRows run.old run.new }
 {
-    enqueue_failure(alloc, run, SmallBytes::empty())
+    enqueue_failure(alloc, run, SharedBytes::empty())
 }
 
 /// Starts an invoke: the type, the count, `namelist`, the params and the write to `idlocation`, in this order. A fault
@@ -161,7 +161,7 @@ struct Start {
     place: u32,
     /// Which of the session's children this is, from 1.
     number: u64,
-    id: SmallBytes,
+    id: SharedBytes,
     pairs: PairList,
 }
 
@@ -183,18 +183,18 @@ fn invoke_id(
     s: u32,
     node: &Node,
     number: u64,
-) -> Result<SmallBytes, NoMemory>
+) -> Result<SharedBytes, NoMemory>
     requires { s < state_count t.now }
     ensures { IfOk result (λ id. id ≡ invoke_id t.now s node.now number) }
 {
     match node.text(Attribute::Id) {
-        Some(id) => SmallBytes::from_slice(alloc, id),
+        Some(id) => SharedBytes::from_slice(alloc, id),
         None => {
             let mut text = TextWriter::new(alloc);
             text.bytes(state_id(alloc, t, s)?.slice())?;
             text.text(".")?;
             text.number(u128::from(number))?;
-            SmallBytes::from_slice(alloc, text.slice())
+            SharedBytes::from_slice(alloc, text.slice())
         }
     }
 }

@@ -5,7 +5,7 @@ ghost use Rattle.sc_law.specs.Runs.{fresh_state};
 ghost use Rattle.sc_types.specs.declared.session.Phase.TheVariants as phase;
 ghost use Rattle.sc_turn_bench.specs.Sessions.{Waits, WaitsFor};
 
-use sc_base::{Name, NoMemory, Plain, Queue, Sequence, SmallBytes, Word};
+use sc_base::{Name, NoMemory, Plain, Queue, Sequence, SharedBytes, Word};
 use sc_law::Engine;
 use sc_turn::{Compiled, Plan};
 use sc_types::{Cue, Data, Event, Kind, Phase, SessionState};
@@ -22,10 +22,10 @@ fn event_cue(alloc: Global, name: &[u8]) -> Option<Cue>
         number: 1,
         name,
         kind: Kind::External,
-        sendid: SmallBytes::empty(),
-        origin: SmallBytes::empty(),
-        origintype: SmallBytes::empty(),
-        invokeid: SmallBytes::empty(),
+        sendid: SharedBytes::empty(),
+        origin: SharedBytes::empty(),
+        origintype: SharedBytes::empty(),
+        invokeid: SharedBytes::empty(),
         payload: Data::Absent,
     }))
 }

@@ -9,6 +9,7 @@ use Rattle.serde_json.specs.Data.{Data, null, Items, no_items, item, Members, no
 use Rattle.serde_json.specs.Find.{get, as_str, as_array, as_object}
 use Rattle.serde_json.specs.Read.{read}
 use Rattle.sc_types.specs.Descriptors.{pieces}
+use Rattle.sc_types.specs.Profiles.{Profile, plain}
 use Rattle.sc_types.specs.Elements.{tag_of, is_numbered, attribute_text, attributes, required, either, form_of, has_form, is_code}
 use Rattle.sc_types.specs.declared.attribute.Attribute.{Attribute}
 use Rattle.sc_types.specs.declared.faults.TheConstants.{NOT_JSON, NOT_ELEMENT, UNKNOWN_TAG, UNKNOWN_MEMBER, BAD_MEMBER, BAD_EXPR, TOO_DEEP, TOO_MANY, TOO_LARGE}
@@ -26,8 +27,12 @@ use Rattle.sc_types.specs.declared.chart.Tag.{Tag}
 use Rattle.sc_types.specs.declared.chart.Tag.TheVariants.{Scxml}
 use Rattle.sc_types.specs.declared.expr.Expr.{Expr}
 
+-- how texts are read as expressions, in one profile and in each
 abbrev pub Reading : Type 0
 Reading = List ℕ → Option Expr
+
+abbrev pub Readings : Type 0
+Readings = Profile → Reading
 
 -- what an element has
 
@@ -141,15 +146,19 @@ first_fault code_of before (p ∷ ps) =
 abbrev pub levels : ℕ
 levels = LEVEL_LIMIT + 1
 
-unfoldable pub value_fault : Reading → Data → Option ChartFault
-value_fault code_of d = first_fault code_of 0 (places levels [] d)
+-- the profile that a chart asks for: there is one
+abbrev pub profile_of : Data → Profile
+profile_of d = plain
+
+unfoldable pub value_fault : Readings → Data → Option ChartFault
+value_fault code_of d = first_fault (code_of (profile_of d)) 0 (places levels [] d)
 
 -- none where `serde_json` reads no value
 abbrev pub json_of : List ℕ → Option Data
 json_of text = if is_utf8 text then read text else None
 
 -- the first fault of a text
-unfoldable pub fault_of : Reading → List ℕ → Option ChartFault
+unfoldable pub fault_of : Readings → List ℕ → Option ChartFault
 fault_of code_of text =
     if nat_lt CHART_TEXT_LIMIT (length text) then Some (fault TOO_LARGE [] [])
     else option_map_or (value_fault code_of) (json_of text) (Some (fault NOT_JSON [] []))
@@ -188,11 +197,11 @@ abbrev pub tree : Reading → ℕ → Data → Node
 tree code_of zero d = node Scxml [] []
 tree code_of (suc more) d = tagged_tree code_of (tree code_of more) d (unwrap_or (tag_at d) Scxml)
 
-unfoldable pub value_chart : Reading → Data → Chart
-value_chart code_of d = record { root = tree code_of levels d }
+unfoldable pub value_chart : Readings → Data → Chart
+value_chart code_of d = record { root = tree (code_of (profile_of d)) levels d }
 
 -- what a text spells: a chart, or its first fault
-abbrev pub chart_of : Reading → List ℕ → Result Chart ChartFault
+abbrev pub chart_of : Readings → List ℕ → Result Chart ChartFault
 chart_of code_of text =
     option_map_or Err (fault_of code_of text) (Ok (value_chart code_of (unwrap_or (json_of text) null)))
 

@@ -4,6 +4,7 @@ use Rattle.std.specs.List.{list_all}
 use Rattle.std.specs.Fmt.{signed_decimal}
 use Rattle.std.specs.Str.{bytes_eq}
 use Rattle.sc_base.specs.Text.{is_plain_name, is_text, is_int}
+use Rattle.sc_types.specs.Profiles.{Profile}
 use Rattle.sc_types.specs.Tokens.{op_text, tokens}
 use Rattle.sc_types.specs.Values.{text_literal, truth_text, joined}
 use Rattle.sc_types.specs.declared.expr.EventField.{EventField}
@@ -185,12 +186,14 @@ mutual
     more : {room : ℕ} {e : Expr} {es : List Expr} {ts us : List Token} → Spells room 6 e ts → SpellsItems room es us
         → SpellsItems room (e ∷ es) (ts ++ Sign Comma ∷ us)
 
--- the text of an expression: at most 256 levels deep, with at most 256 brackets open at any place
-pub record IsExpression (text : List ℕ) (e : Expr) : Type 0 where
-  pub spelled : Spells EXPRESSION_LEVEL_LIMIT 6 e (tokens false text)
+-- the text of an expression in a profile: at most 256 levels deep, with at most 256 brackets open at any place
+pub record IsExpression (profile : Profile) (text : List ℕ) (e : Expr) : Type 0 where
+  pub spelled : Spells EXPRESSION_LEVEL_LIMIT 6 e (tokens profile false text)
   pub shallow : depth e ≤ EXPRESSION_LEVEL_LIMIT
 
--- how the texts of expressions are read: each gives the one expression that it spells, and nothing where it spells none
-abbrev pub IsReading : (List ℕ → Option Expr) → Type 0
+-- how the texts of expressions are read in each profile: each gives the one expression that it spells, and nothing where
+-- it spells none
+abbrev pub IsReading : (Profile → List ℕ → Option Expr) → Type 0
 IsReading code_of =
-    (text : List ℕ) → MatchOption (code_of text) ((e : Expr) → ¬ IsExpression text e) (IsExpression text)
+    (profile : Profile) (text : List ℕ)
+    → MatchOption (code_of profile text) ((e : Expr) → ¬ IsExpression profile text e) (IsExpression profile text)

@@ -5,6 +5,7 @@ pub mod Descriptors
 pub mod Elements
 pub mod Expressions
 pub mod PrintedCharts
+pub mod Profiles
 pub mod Sends
 pub mod Tokens
 pub mod Values

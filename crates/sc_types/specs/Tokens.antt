@@ -5,7 +5,8 @@ use Rattle.std.specs.List.{starts_with, prefix_len, take_while}
 use Rattle.std.specs.Str.{bytes_eq}
 use Rattle.std.specs.Str.Parse.{digits_value}
 use Rattle.sc_types.specs.Descriptors.{is_white_space}
-use Rattle.sc_base.specs.Text.{is_letter, is_digit, is_text}
+use Rattle.sc_types.specs.Profiles.{Profile}
+use Rattle.sc_base.specs.Text.{is_letter, is_digit, is_text_within}
 use Rattle.sc_types.specs.declared.expr.Op.{Op}
 use Rattle.sc_types.specs.declared.expr.Op.TheVariants.{Or, And, Eq, Ne, Lt, Le, Gt, Ge, Add, Sub, Mul, Div, Rem}
 use Rattle.sc_types.specs.declared.token.Mark.{Mark}
@@ -123,15 +124,15 @@ quoted quote (b ∷ c ∷ rest) =
     else if is_plain_byte b then before b (quoted quote (c ∷ rest))
     else None
 
-abbrev pub read_quoted : Option (List ℕ × List ℕ) → Read
-read_quoted None = bad
-read_quoted (Some q) = if is_text q.0 then (Text q.0, q.1) else bad
+abbrev pub read_quoted : Profile → Option (List ℕ × List ℕ) → Read
+read_quoted profile None = bad
+read_quoted profile (Some q) = if is_text_within profile.text_limit q.0 then (Text q.0, q.1) else bad
 
 -- the token that a byte and what follows it begin with; where numbers may be signed, a `-` right before a digit
 -- belongs to the number
-unfoldable pub first_token : Bool → ℕ → List ℕ → Read
-first_token signed b rest =
-    if is_quote b then read_quoted (quoted b rest)
+unfoldable pub first_token : Profile → Bool → ℕ → List ℕ → Read
+first_token profile signed b rest =
+    if is_quote b then read_quoted profile (quoted b rest)
     else if is_word_byte b then read_run (b ∷ rest)
     else if signed && b == 45 && is_digit (slice_index rest 0) then read_negative rest
     else read_sign (b ∷ rest) (op_at (b ∷ rest))
@@ -139,15 +140,17 @@ first_token signed b rest =
 abbrev pub without_white : List ℕ → List ℕ
 without_white text = drop (prefix_len is_white_space text) text
 
-abbrev pub tokens_step : Bool → (List ℕ → List Token) → List ℕ → List Token
-tokens_step signed later [] = []
-tokens_step signed later (b ∷ rest) = (first_token signed b rest).0 ∷ later (first_token signed b rest).1
+abbrev pub tokens_step : Profile → Bool → (List ℕ → List Token) → List ℕ → List Token
+tokens_step profile signed later [] = []
+tokens_step profile signed later (b ∷ rest) =
+    (first_token profile signed b rest).0 ∷ later (first_token profile signed b rest).1
 
 -- at most so many tokens, with white space free between them
-abbrev pub tokens_up_to : ℕ → Bool → List ℕ → List Token
-tokens_up_to zero signed text = []
-tokens_up_to (suc most) signed text = tokens_step signed (tokens_up_to most signed) (without_white text)
+abbrev pub tokens_up_to : ℕ → Profile → Bool → List ℕ → List Token
+tokens_up_to zero profile signed text = []
+tokens_up_to (suc most) profile signed text =
+    tokens_step profile signed (tokens_up_to most profile signed) (without_white text)
 
 -- a text has no more tokens than bytes
-unfoldable pub tokens : Bool → List ℕ → List Token
-tokens signed text = tokens_up_to (length text) signed text
+unfoldable pub tokens : Profile → Bool → List ℕ → List Token
+tokens profile signed text = tokens_up_to (length text) profile signed text

@@ -6,6 +6,7 @@ use Rattle.std.specs.Fmt.{signed_decimal}
 use Rattle.std.specs.Str.{bytes_eq}
 use Rattle.sc_types.specs.Descriptors.{is_white_space}
 use Rattle.sc_base.specs.Text.{is_text, is_int}
+use Rattle.sc_types.specs.Profiles.{plain}
 use Rattle.sc_types.specs.Tokens.{tokens}
 use Rattle.sc_types.specs.declared.limits.TheConstants.{ITEM_LIMIT}
 use Rattle.sc_types.specs.declared.token.Mark.TheVariants.{OpenSquare, CloseSquare, Comma}
@@ -99,4 +100,4 @@ is_trimmed text = not (is_white_space (slice_index text 0)) && not (is_white_spa
 
 -- the value that a text writes
 unfoldable pub literal_value : List ℕ → Option Value
-literal_value text = if is_trimmed text then value_of (tokens true text) else None
+literal_value text = if is_trimmed text then value_of (tokens plain true text) else None

@@ -3,7 +3,7 @@ ghost use Rattle.std.proofs.Common.{rules};
 use crate::event::Event;
 use crate::host::To;
 use crate::value::PairList;
-use sc_base::{Plain, SmallBytes, Word};
+use sc_base::{Plain, SharedBytes, Word};
 
 /// What a turn asks the host to do. The host carries the effects out in the order in which the turn made them.
 #[derive(Clone, Debug, Drop, PartialEq, Eq)]
@@ -17,11 +17,11 @@ pub enum Effect {
     },
     /// Drop the session's pending sends of an id. `<cancel>`, SCXML 6.3.
     CancelSend {
-        sendid: SmallBytes,
+        sendid: SharedBytes,
     },
     /// Start a child session of an installed chart. `<invoke>`, SCXML 6.4.
     Invoke {
-        invokeid: SmallBytes,
+        invokeid: SharedBytes,
         child: Word,
         /// The chart's name, as `src` gives it.
         chart: Word,

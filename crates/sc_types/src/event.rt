@@ -1,9 +1,8 @@
 ghost use Rattle.std.specs.Prelude.{◌≡◌, IfOk};
 ghost use Rattle.std.proofs.Common.{rules};
-ghost use Rattle.sc_base.specs.SmallBytes.{share_of};
 
 use crate::value::{PairList, Value};
-use sc_base::{Name, Plain, Share, SmallBytes};
+use sc_base::{Name, Plain, SharedBytes};
 use std::alloc::AllocError;
 
 /// What `_event.data` reads.
@@ -29,10 +28,10 @@ pub struct Event {
     pub number: u128,
     pub name: Name,
     pub kind: Kind,
-    pub sendid: SmallBytes,
-    pub origin: SmallBytes,
-    pub origintype: SmallBytes,
-    pub invokeid: SmallBytes,
+    pub sendid: SharedBytes,
+    pub origin: SharedBytes,
+    pub origintype: SharedBytes,
+    pub invokeid: SharedBytes,
     pub payload: Data,
 }
 
@@ -44,23 +43,19 @@ impl Plain for Kind {
     ghost clone_equals = { Prim.search rules };
 }
 
-/// The shares of all texts are taken before one is moved, so that no text goes through a result of its own.
 impl Clone for Event {
     ghost is_clone = { λ e copy. copy ≡ e };
 
     fn clone(&self) -> Result<Self, AllocError> {
         let payload = copied(&self.payload)?;
-        let name = self.name.share()?;
-        let (sendid, invokeid) = share_ids(self)?;
-        let (origin, origintype) = share_origins(self)?;
         Ok(Event {
             number: self.number,
-            name: self.name.shared(name),
+            name: self.name.clone()?,
             kind: self.kind,
-            sendid: self.sendid.shared(sendid),
-            origin: self.origin.shared(origin),
-            origintype: self.origintype.shared(origintype),
-            invokeid: self.invokeid.shared(invokeid),
+            sendid: self.sendid.clone()?,
+            origin: self.origin.clone()?,
+            origintype: self.origintype.clone()?,
+            invokeid: self.invokeid.clone()?,
             payload,
         })
     }
@@ -72,18 +67,6 @@ fn copied(payload: &Data) -> Result<Data, AllocError>
     ensures { IfOk result (λ copy. copy ≡ payload.now) }
 {
     payload.clone()
-}
-
-fn share_ids(event: &Event) -> Result<(Share, Share), AllocError>
-    ensures { IfOk result (λ shares. shares ≡ (share_of event.now.sendid, share_of event.now.invokeid)) }
-{
-    Ok((event.sendid.share()?, event.invokeid.share()?))
-}
-
-fn share_origins(event: &Event) -> Result<(Share, Share), AllocError>
-    ensures { IfOk result (λ shares. shares ≡ (share_of event.now.origin, share_of event.now.origintype)) }
-{
-    Ok((event.origin.share()?, event.origintype.share()?))
 }
 
 impl Plain for Event {

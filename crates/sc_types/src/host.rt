@@ -3,7 +3,7 @@ ghost use Rattle.std.proofs.Common.{rules};
 
 use crate::event::Event;
 use crate::session::SessionState;
-use sc_base::{Bytes, NoMemory, Plain, Queue, Sequence, SmallBytes, Word};
+use sc_base::{Bytes, NoMemory, Plain, Queue, Sequence, SharedBytes, Word};
 use std::alloc::AllocError;
 
 /// An installed chart: its name, and its text as it was given.
@@ -17,7 +17,7 @@ pub struct ChartImage {
 #[derive(Clone, Debug, Drop, PartialEq, Eq)]
 pub struct InvokerImage {
     pub session: Word,
-    pub invokeid: SmallBytes,
+    pub invokeid: SharedBytes,
     pub cut: bool,
 }
 

@@ -3,7 +3,7 @@ ghost use Rattle.std.proofs.Common.{rules};
 
 use crate::event::{Data, Event};
 use crate::value::{PairList, Value};
-use sc_base::{NoMemory, Plain, PlainName, Queue, Sequence, SmallBytes, Word};
+use sc_base::{NoMemory, Plain, PlainName, Queue, Sequence, SharedBytes, Word};
 use std::alloc::AllocError;
 
 /// How a session ended.
@@ -31,7 +31,7 @@ pub enum Phase {
 pub struct Invoked {
     pub state: u32,
     pub place: u32,
-    pub invokeid: SmallBytes,
+    pub invokeid: SharedBytes,
     pub child: Word,
 }
 

@@ -8,7 +8,8 @@ use Rattle.std.specs.Str.{IsUtf8, is_utf8}
 use Rattle.serde_json.specs.Data.{Data, null, depth}
 use Rattle.serde_json.specs.Read.{read}
 use Rattle.serde_json.specs.Written.{compact_text}
-use Rattle.sc_types.specs.ChartTexts.{Reading, fault, value_fault, json_of, fault_of, value_chart, chart_of}
+use Rattle.sc_types.specs.Profiles.{plain}
+use Rattle.sc_types.specs.ChartTexts.{Readings, fault, value_fault, json_of, fault_of, value_chart, chart_of}
 use Rattle.sc_types.specs.Expressions.{expr_text, IsExpression}
 use Rattle.sc_types.specs.PrintedCharts.{data_of, chart_text}
 use Rattle.sc_types.specs.Tokens.{tokens}
@@ -26,22 +27,22 @@ use Rattle.sc_chart_json.proofs.Printed.Trees.{reprint, no_fault_again, tree_aga
 
 -- ---- expressions
 
-spelled_by : (text : List ℕ) (o : Option Expr) (e : Expr) → o ≡ Some e → MatchOption o ((e : Expr) → ¬ IsExpression text e) (IsExpression text) → IsExpression text e
+spelled_by : (text : List ℕ) (o : Option Expr) (e : Expr) → o ≡ Some e → MatchOption o ((e : Expr) → ¬ IsExpression plain text e) (IsExpression plain text) → IsExpression plain text e
 spelled_by text None e is match = absurd (cc)
-spelled_by text (Some x) e is match = let same : x ≡ e = cc in subst (IsExpression text) same match
+spelled_by text (Some x) e is match = let same : x ≡ e = cc in subst (IsExpression plain text) same match
 
-expression_read : (text : List ℕ) (e : Expr) → IsExpression text e → expr_of text ≡ Some e
+expression_read : (text : List ℕ) (e : Expr) → IsExpression plain text e → expr_of plain text ≡ Some e
 unfolding expr_of
-expression_read text e is = spelled_reads (tokens false text) e is.spelled is.shallow
+expression_read text e is = spelled_reads (tokens plain false text) e is.spelled is.shallow
 
-printed_read : ReadsPrinted expr_of
+printed_read : ReadsPrinted (expr_of plain)
 printed_read text e read =
-    let is = spelled_by text (expr_of text) e read (is_reading text) in
+    let is = spelled_by text (expr_of plain text) e read (is_reading plain text) in
     expression_read (expr_text e) e (printed_is_expression e (within_limits text e is))
 
 -- ---- what a text spells
 
-record IsSpelled (code_of : Reading) (text : List ℕ) (c : Chart) : Type 0 where
+record IsSpelled (code_of : Readings) (text : List ℕ) (c : Chart) : Type 0 where
   root : Data
   none : value_fault code_of root ≡ None
   same : c ≡ value_chart code_of root
@@ -50,13 +51,13 @@ ok_or_err : (o : Option ChartFault) (v c : Chart) → option_map_or Err o (Ok v)
 ok_or_err None v c is = (refl, cc)
 ok_or_err (Some f) v c is = absurd (cc)
 
-read_without_fault : (code_of : Reading) (long : Bool) (f g : ChartFault) (o : Option Data)
+read_without_fault : (code_of : Readings) (long : Bool) (f g : ChartFault) (o : Option Data)
     → (if long then Some f else option_map_or (value_fault code_of) o (Some g)) ≡ None → value_fault code_of (unwrap_or o null) ≡ None
 read_without_fault code_of true f g o none = absurd (cc)
 read_without_fault code_of false f g None none = absurd (cc)
 read_without_fault code_of false f g (Some d) none = none
 
-spelled : (code_of : Reading) (text : List ℕ) (c : Chart) → chart_of code_of text ≡ Ok c → IsSpelled code_of text c
+spelled : (code_of : Readings) (text : List ℕ) (c : Chart) → chart_of code_of text ≡ Ok c → IsSpelled code_of text c
 unfolding fault_of
 spelled code_of text c is =
     let both = ok_or_err (fault_of code_of text) (value_chart code_of (unwrap_or (json_of text) null)) c is in
@@ -78,7 +79,7 @@ not_long n most short = by (nat_lt most n) refl
     by true long = absurd (omega (arith, ltb-true most n long))
     by false long = refl
 
-spells : (code_of : Reading) (text : List ℕ) (d : Data) → length text ≤ 1_048_576 → json_of text ≡ Some d → value_fault code_of d ≡ None
+spells : (code_of : Readings) (text : List ℕ) (d : Data) → length text ≤ 1_048_576 → json_of text ≡ Some d → value_fault code_of d ≡ None
     → chart_of code_of text ≡ Ok (value_chart code_of d)
 unfolding fault_of
 spells code_of text d short is none = by (nat_lt 1_048_576 (length text)) (json_of text) (not_long _ _ short) is
@@ -88,15 +89,15 @@ spells code_of text d short is none = by (nat_lt 1_048_576 (length text)) (json_
         ≡ Ok (value_chart code_of d)
     by long o short is = rw (short, is, none)
 
-module _ (code_of : Reading) (again : ReadsPrinted code_of) where
+module _ (code_of : Readings) (again : ReadsPrinted (code_of plain)) where
   reads_back : (text t : List ℕ) (c : Chart) → chart_of code_of text ≡ Ok c → is_utf8 t ≡ true → read t ≡ Some (data_of c.root)
       → length t ≤ 1_048_576 → chart_of code_of t ≡ Ok c
   unfolding data_of value_chart value_fault
   reads_back text t c is utf8 reads short =
       let known = spelled code_of text c is in
-      let printed : data_of c.root ≡ reprint code_of 41 known.root = ap (λ (c : Chart). data_of c.root) known.same in
-      spells code_of t (reprint code_of 41 known.root) short (read_utf8 t _ utf8 (reads ∙ ap Some printed)) (no_fault_again code_of again 41 known.root known.none)
-      ∙ ap (λ root. Ok record { root = root }) (tree_again code_of again 41 known.root known.none)
+      let printed : data_of c.root ≡ reprint (code_of plain) 41 known.root = ap (λ (c : Chart). data_of c.root) known.same in
+      spells code_of t (reprint (code_of plain) 41 known.root) short (read_utf8 t _ utf8 (reads ∙ ap Some printed)) (no_fault_again (code_of plain) again 41 known.root known.none)
+      ∙ ap (λ root. Ok record { root = root }) (tree_again (code_of plain) again 41 known.root known.none)
       ∙ ap Ok (sym known.same)
 
 -- it nests no deeper than what is read
@@ -104,8 +105,8 @@ shallow_chart : (text : List ℕ) (c : Chart) → chart_of expr_of text ≡ Ok c
 unfolding data_of value_chart
 shallow_chart text c is =
     let known = spelled expr_of text c is in
-    let printed : data_of c.root ≡ reprint expr_of 41 known.root = ap (λ (c : Chart). data_of c.root) known.same in
-    subst (λ d. depth d ≤ 127) (sym printed) (omega (arith, printed_shallow expr_of 41 known.root))
+    let printed : data_of c.root ≡ reprint (expr_of plain) 41 known.root = ap (λ (c : Chart). data_of c.root) known.same in
+    subst (λ d. depth d ≤ 127) (sym printed) (omega (arith, printed_shallow (expr_of plain) 41 known.root))
 
 chart_read_back : (text t : List ℕ) (c : Chart) → chart_of expr_of text ≡ Ok c → IsUtf8 t → (depth (data_of c.root) ≤ 127 → read t ≡ Some (data_of c.root))
     → length t ≤ 1_048_576 → chart_of expr_of t ≡ Ok c
