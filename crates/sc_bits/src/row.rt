@@ -1,4 +1,4 @@
-ghost use Rattle.std.specs.Prelude.{◌≡◌, ◌<◌, ◌≤◌, ◌==◌, nat_le, not, find, filter, [], IfOk, IfSome};
+ghost use Rattle.std.specs.Prelude.{◌≡◌, ◌<◌, ◌≤◌, ◌==◌, nat_le, not, find, filter, replicate, [], IfOk, IfSome};
 ghost use Rattle.std.specs.List.{list_any};
 ghost use Rattle.sc_base.specs.Ascending.{contains, with_number, joined};
 ghost use Rattle.sc_bits.specs.Rows.{IsAscending};
@@ -8,14 +8,19 @@ use crate::words::{
     words_meet,
 };
 use sc_base::NoMemory;
+use smallvec::SmallVec;
 use std::alloc::Global;
 use std::marker::Model;
 
-/// A set of numbers below a width, seen as the ascending list of its members.
+/// How many words a row keeps in place: those of 128 numbers.
+const WORDS_IN_PLACE: usize = 2;
+
+/// A set of numbers below a width, seen as the ascending list of its members. A row of at most 128 numbers takes no
+/// memory beside itself.
 #[derive(Debug, Drop)]
 pub struct Row {
     width: u32,
-    words: Vec<u64>,
+    words: SmallVec<u64, WORDS_IN_PLACE>,
 }
 
 impl Model for Row {
@@ -29,12 +34,22 @@ impl Model for Row {
     ghost invariant = { λ r. Holds r.width r.words.items };
 }
 
+/// So many words of 0.
+fn zeros(alloc: Global, count: usize) -> Result<SmallVec<u64, WORDS_IN_PLACE>, NoMemory>
+    ensures { IfOk result (λ words. words.items ≡ replicate count 0) }
+{
+    if count <= WORDS_IN_PLACE {
+        return Ok(SmallVec::from_buf_and_len(alloc, [0u64; WORDS_IN_PLACE], count));
+    }
+    Ok(SmallVec::from_vec(vec![in alloc; 0u64; count]?))
+}
+
 impl Row {
     /// The empty row of a width.
     pub fn new(alloc: Global, width: u32) -> Result<Row, NoMemory>
         ensures { IfOk result (λ r. r ≡ record { width = width; members = [] }) }
     {
-        let words = vec![in alloc; 0u64; width.div_ceil(64) as usize]?;
+        let words = zeros(alloc, width.div_ceil(64) as usize)?;
         Ok(Row { width, words })
     }
 
@@ -42,7 +57,7 @@ impl Row {
     pub fn copy(&self, alloc: Global) -> Result<Row, NoMemory>
         ensures { IfOk result (λ r. r ≡ self.now) }
     {
-        let words = Vec::from_slice(alloc, self.words.as_slice())?;
+        let words = SmallVec::from_slice(alloc, self.words.as_slice())?;
         Ok(Row {
             width: self.width,
             words,

@@ -5,11 +5,11 @@ use Rattle.sc_bits.specs.Words.{bit_of}
 use Rattle.sc_bits.proofs.row.Row.next.Goals as goal
 
 pub next_bit-requires : goal.next_bit-requires
-next_bit-requires c = let same = ap length c.as_slice.ensures.value in omega arith
+next_bit-requires c = let same = ap length c.as_slice.ensures in omega arith
 
 pub returns : goal.returns
 returns c =
-    let told = rw c.as_slice.ensures.value at c.next_bit.ensures in
+    let told = rw c.as_slice.ensures at c.next_bit.ensures in
     rw (← c.self.view_is) record {
       value = next-member c.self.inside.width c.args.from c.self.inside.words.items c.next_bit.result c.self.invariant told;
       within = next-within c.self.inside.width c.args.from c.self.inside.words.items c.next_bit.result c.self.invariant told;
