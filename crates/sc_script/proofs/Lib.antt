@@ -4,5 +4,6 @@ pub mod DrawnLemmas
 pub mod JoinedLemmas
 pub mod PairLemmas
 pub mod PieceLemmas
+pub mod ShortNumberLemmas
 pub mod SpaceLemmas
 pub mod StepLemmas

@@ -7,4 +7,5 @@ pub mod OneWay
 pub mod Pairs
 pub mod Pieces
 pub mod Scripts
+pub mod ShortNumbers
 pub mod Steps

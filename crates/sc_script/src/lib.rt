@@ -13,6 +13,7 @@ mod pairs;
 mod pieces;
 mod reader;
 mod script;
+mod short_numbers;
 mod words;
 
 pub use fault::{Cause, ScriptFault, ScriptRefusal};

@@ -6,6 +6,7 @@ ghost use Rattle.sc_script.specs.Pairs.{named, pair_of, pairs_of};
 
 use crate::fault::Cause;
 use crate::pieces::{count_pieces, cut_piece};
+use crate::short_numbers::short_value;
 use sc_base::{Failure, NoMemory, Unfit};
 use sc_expr::{ExprFault, read_value};
 use sc_types::{PairList, PlainName, Sequence, Value};
@@ -84,6 +85,9 @@ fn read_literal(alloc: Global, text: &[u8]) -> Result<Value, Failure<Cause>>
     ensures fault { (cause : Cause) → result ≡ Err (Failure.Fault cause)
         → (cause ≡ Cause.BadValue) × (literal_value text.now ≡ None) }
 {
+    if let Some(value) = short_value(text) {
+        return Ok(value);
+    }
     match read_value(alloc, text) {
         Ok(value) => Ok(value),
         Err(ExprFault::NotExpr) => Err(Failure::Fault(Cause::BadValue)),
