@@ -1,5 +1,5 @@
 -- Numbers of few digits, and the values that they write.
-use Rattle.std.proofs.Common.{◌≡◌, ℕ, ◌+◌, ◌*◌, ◌-◌, ◌<◌, ◌≤◌, ◌^◌, ◌==◌, ◌&&◌, Bool, true, false, not, nat_lt, nat_le, Option, Some, None, List, length, take, get_or, pos, IsTrue, if◌then◌else◌, refl, ap, sym, ◌∙◌, arith}
+use Rattle.std.proofs.Common.{◌≡◌, ℕ, ◌+◌, ◌*◌, ◌-◌, ◌<◌, ◌≤◌, ◌^◌, ◌==◌, ◌&&◌, Bool, true, false, nat_lt, Some, None, List, length, take, get_or, pos, IsTrue, if◌then◌else◌, refl, ap, sym, ◌∙◌, arith}
 use Rattle.std.proofs.lemmas.Bool.{and_parts, lt-ltb, ltb-true, leb-true, not-true}
 use Rattle.std.proofs.lemmas.Bool.Decides.{nat_tests}
 use Rattle.std.proofs.lemmas.Fmt.{decimal-digits_value}
@@ -9,7 +9,7 @@ use Rattle.std.proofs.lemmas.Str.Parse.{digit_at, digits_value_short, digits_val
 use Rattle.std.specs.Fmt.{decimal}
 use Rattle.std.specs.Str.Parse.{digits_value}
 use Rattle.sc_types.specs.Delays.{are_digits}
-use Rattle.sc_types.specs.Values.{fits, literal_value, value_text}
+use Rattle.sc_types.specs.Values.{fits, literal_value}
 use Rattle.sc_types.specs.declared.value.Value.{Value}
 use Rattle.sc_types.specs.declared.value.Value.TheVariants.{Int, outs-Int}
 use Rattle.sc_expr.proofs.LiteralLemmas.{number-text}

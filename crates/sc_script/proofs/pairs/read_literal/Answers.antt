@@ -1,4 +1,4 @@
-use Rattle.std.proofs.Common.{Some, sym, ap, ◌∙◌}
+use Rattle.std.proofs.Common.{sym}
 use Rattle.sc_script.proofs.ShortNumberLemmas.{short_literal}
 use Rattle.sc_script.proofs.pairs.read_literal.Goals as goal
 

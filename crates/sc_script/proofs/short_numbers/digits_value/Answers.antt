@@ -1,4 +1,4 @@
-use Rattle.std.proofs.Common.{◌≡◌, ap, ◌∙◌, sym, arith}
+use Rattle.std.proofs.Common.{◌≡◌, arith}
 use Rattle.std.proofs.Common.{take}
 use Rattle.std.specs.Str.Parse.{digits_value}
 use Rattle.sc_script.proofs.ShortNumberLemmas.{a_digit, more_digits, front_bound}

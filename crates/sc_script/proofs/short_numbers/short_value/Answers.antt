@@ -1,4 +1,4 @@
-use Rattle.std.proofs.Common.{◌≡◌, ◌<◌, ◌^◌, sym, ◌∙◌, arith, rules}
+use Rattle.std.proofs.Common.{◌<◌, ◌^◌, sym, ◌∙◌, arith}
 use Rattle.std.proofs.lemmas.Grind.{common_steps}
 use Rattle.std.specs.Str.Parse.{digits_value}
 use Rattle.sc_script.proofs.ShortNumberLemmas.{short_parts, short_bound}
