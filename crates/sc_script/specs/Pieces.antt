@@ -8,6 +8,13 @@ unfoldable pub piece_len : Place → List ℕ → ℕ
 piece_len place [] = 0
 piece_len place (b ∷ rest) = if is_gap place b then 0 else suc (piece_len (next_place place b) rest)
 
+-- the bytes `'` and `[`
+abbrev apostrophe : ℕ
+apostrophe = 39
+
+abbrev open_bracket : ℕ
+open_bracket = 91
+
 -- a byte that neither begins nor ends a pair, a text or a list where it stands outside of texts and lists
 abbrev pub is_inner : ℕ → Bool
-is_inner b = nat_lt 39 b && not (b == 91)
+is_inner b = nat_lt apostrophe b && not (b == open_bracket)

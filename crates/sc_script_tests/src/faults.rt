@@ -4,7 +4,7 @@ use std::alloc::Global;
 use std::test::Fail;
 
 /// A line, and what is wrong with it.
-const LINES: [(&[u8], Cause); 55] = [
+const LINES: [(&[u8], Cause); 60] = [
     (b"\xff", Cause::NotUtf8),
     (b"chart n \"\xff\"", Cause::NotUtf8),
     (b"walk s", Cause::UnknownWord),
@@ -45,6 +45,11 @@ const LINES: [(&[u8], Cause); 55] = [
     (b"post s e x='a b", Cause::BadValue),
     (b"post s e x=[1, 2", Cause::BadValue),
     (b"post s e x=9223372036854775808", Cause::BadValue),
+    (b"post s e x=00", Cause::BadValue),
+    (b"post s e x=07", Cause::BadValue),
+    (b"post s e x=0000000000000000001", Cause::BadValue),
+    (b"post s e x=+1", Cause::BadValue),
+    (b"post s e x=1a", Cause::BadValue),
     (b"tick 01", Cause::BadNumber),
     (b"tick +1", Cause::BadNumber),
     (b"tick -1", Cause::BadNumber),

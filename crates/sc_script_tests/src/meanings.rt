@@ -97,6 +97,33 @@ fn a_post_has_pairs(rt: HostRuntime) -> Result<(), Fail> {
 }
 
 #[test]
+fn a_number_in_a_pair_has_64_bits_and_a_sign(rt: HostRuntime) -> Result<(), Fail> {
+    let alloc = rt.alloc();
+    for (line, number) in [
+        (b"post s e x=0".as_slice(), 0),
+        (b"post s e x=7", 7),
+        (b"post s e x=999999999999999999", 999_999_999_999_999_999),
+        (b"post s e x=1000000000000000000", 1_000_000_000_000_000_000),
+        (b"post s e x=9223372036854775807", i64::MAX),
+        (b"post s e x=-1", -1),
+        (b"post s e x=-9223372036854775808", i64::MIN),
+    ] {
+        let pairs = and(alloc, none(alloc), b"x", Value::Int(number))?;
+        assert!(rt; says(alloc, line, post(alloc, b"s", b"e", pairs)?)?);
+    }
+    Ok(())
+}
+
+#[test]
+fn a_line_that_is_not_ascii_is_read_as_others_are(rt: HostRuntime) -> Result<(), Fail> {
+    let alloc = rt.alloc();
+    let pairs = and(alloc, none(alloc), b"x", text(alloc, b"\xc3\xa9")?)?;
+    let want = post(alloc, b"\xc3\xa4", b"e", pairs)?;
+    assert!(rt; says(alloc, b"post \xc3\xa4 e x='\xc3\xa9'", want)?);
+    Ok(())
+}
+
+#[test]
 fn lines_behind_a_client_are_its_own(rt: HostRuntime) -> Result<(), Fail> {
     let alloc = rt.alloc();
     let script = script_of(
