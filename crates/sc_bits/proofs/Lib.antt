@@ -1,4 +1,5 @@
 pub mod BitLemmas
+pub mod Crossing
 pub mod NextBitLemmas
 pub mod NumberLemmas
 pub mod RowLemmas

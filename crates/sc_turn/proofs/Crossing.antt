@@ -13,6 +13,7 @@ use Rattle.sc_types.proofs.expr.EventField.TheSendSync as event_field
 use Rattle.sc_types.proofs.expr.Op.TheSendSync as op
 use Rattle.sc_types.proofs.chart.Node.TheLaws.TheKnot.{send-Node, sync-Node}
 use Rattle.sc_types.proofs.chart.Tag.TheSendSync as tag
+use Rattle.sc_bits.proofs.Crossing.{row_send, row_sync}
 use Rattle.sc_eval.proofs.ids.Ids.TheSendSync as ids
 use Rattle.sc_tables.proofs.states.States.TheSendSync as states
 use Rattle.sc_tables.proofs.transitions.Transitions.TheSendSync as transitions
@@ -30,6 +31,8 @@ ruleset parts = (
   event_field.the_field_sync,
   op.the_field_send,
   op.the_field_sync,
+  row_send,
+  row_sync,
   ids.the_send,
   ids.the_sync,
   states.the_field_send,
