@@ -1,5 +1,6 @@
 pub mod Begins
 pub mod Crossing
+pub mod EventlessLemmas
 pub mod FitsLaw
 pub mod IdLists
 pub mod KidLemmas

@@ -1,3 +1,4 @@
+pub mod Eventless
 pub mod Given
 pub mod Rounds
 pub mod Starts

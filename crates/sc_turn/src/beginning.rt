@@ -1,13 +1,14 @@
 ghost use Rattle.std.specs.Prelude.{◌≡◌, [], IfOk};
 ghost use Rattle.std.specs.Arc.{arc_value};
-ghost use Rattle.sc_law.specs.Turn.{begin, begin_env};
+ghost use Rattle.sc_law.specs.Turn.{begin_env};
 ghost use Rattle.sc_law.specs.Tree.{state_count};
 ghost use Rattle.sc_law.specs.Runs.{ids};
 ghost use Rattle.std.specs.List.{IsDistinct};
+ghost use Rattle.std.specs.Option.{option_copied};
 ghost use Rattle.std.specs.Str.{bytes_eq};
 ghost use Rattle.sc_eval.specs.Envs.{env_of};
 ghost use Rattle.sc_eval.specs.Places.{names_of};
-ghost use Rattle.sc_turn.specs.States.{CanBegin, IsOver, chart_name, state_of};
+ghost use Rattle.sc_turn.specs.States.{CanBegin, IsOver, begun, chart_name, state_of};
 ghost use Rattle.sc_exec.specs.Runs.{running_of};
 ghost use Rattle.sc_select.specs.Runs.{IsRunOf};
 ghost use Rattle.sc_tables.specs.Rows.{row_of};
@@ -23,26 +24,37 @@ use sc_types::{Event, Invoked, SessionState};
 use std::alloc::Global;
 use std::sync::Arc;
 
-/// The session as a turn begins with it.
-pub(crate) fn begin(alloc: Global, plan: &Plan, before: &SessionState) -> Result<RunState, NoMemory>
+/// The session as a turn begins with it, where `_event` names this event.
+pub(crate) fn begin(
+    alloc: Global,
+    plan: &Plan,
+    before: &SessionState,
+    bound: Option<&Event>,
+) -> Result<RunState, NoMemory>
     requires { CanBegin plan.now before.now }
-    ensures value { IfOk result (λ x. state_of x ≡ begin plan.now before.now) }
+    ensures value { IfOk result (λ x. state_of x ≡ begun plan.now before.now (option_copied bound.entry)) }
     ensures over { IfOk result (IsOver plan.now) }
 {
     let histories = before.histories.copy()?;
-    let running = begin_running(alloc, plan, before)?;
+    let running = begin_running(alloc, plan, before, bound)?;
     Ok(RunState { running, histories })
 }
 
 /// In parts: an early exit then has few values to drop.
-fn begin_running(alloc: Global, plan: &Plan, before: &SessionState) -> Result<Running, NoMemory>
+fn begin_running(
+    alloc: Global,
+    plan: &Plan,
+    before: &SessionState,
+    bound: Option<&Event>,
+) -> Result<Running, NoMemory>
     requires { CanBegin plan.now before.now }
-    ensures value { IfOk result (λ r. running_of r ≡ (begin plan.now before.now).running) }
+    ensures value { IfOk result (λ r.
+        running_of r ≡ (begun plan.now before.now (option_copied bound.entry)).running) }
     ensures over { IfOk result (IsRunOf plan.now) }
 {
     let (internal, invokes) = waiting(before)?;
     let (entered, todo) = rows(alloc, plan, before)?;
-    let env = begin_env(alloc, plan, before)?;
+    let env = begin_env(alloc, plan, before, bound)?;
     Ok(Running {
         env,
         entered,
@@ -92,10 +104,25 @@ fn table(alloc: Global, before: &SessionState) -> Result<DataTable, NoMemory>
     DataTable::from_values(alloc, values)
 }
 
+fn copied(event: Option<&Event>) -> Result<Option<Event>, NoMemory>
+    ensures { IfOk result (λ e. e ≡ option_copied event.entry) }
+{
+    match event {
+        Some(event) => Ok(Some(event.copy()?)),
+        None => Ok(None),
+    }
+}
+
 /// What expressions read at the beginning of a turn.
-fn begin_env(alloc: Global, plan: &Plan, before: &SessionState) -> Result<Env, NoMemory>
+fn begin_env(
+    alloc: Global,
+    plan: &Plan,
+    before: &SessionState,
+    bound: Option<&Event>,
+) -> Result<Env, NoMemory>
     requires { CanBegin plan.now before.now }
-    ensures value { IfOk result (λ e. env_of e ≡ begin_env plan.now before.now) }
+    ensures value { IfOk result (λ e.
+        env_of e ≡ begin_env plan.now (record before.now { bound = option_copied bound.entry })) }
     ensures width { IfOk result (λ e. e.configuration.width ≡ state_count plan.now) }
     ensures ids { IfOk result (λ e. arc_value e.ids ≡ ids plan.now) }
 {
@@ -103,7 +130,7 @@ fn begin_env(alloc: Global, plan: &Plan, before: &SessionState) -> Result<Env, N
     let configuration = row_of(alloc, plan.tables(), before.configuration.slice())?;
     let values = table(alloc, before)?;
     let ids = Arc::try_clone(plan.ids())?;
-    let bound = before.bound.copy()?;
+    let bound = copied(bound)?;
     Ok(Env {
         values,
         configuration,

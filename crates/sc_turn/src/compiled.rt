@@ -1,8 +1,9 @@
 ghost use Rattle.std.specs.Prelude.{◌≡◌, IfOk, OnOk};
+ghost use Rattle.std.specs.Option.{option_copied};
 ghost use Rattle.std.specs.Arc.{arc_value};
-ghost use Rattle.sc_law.specs.Turn.{after, begin, turn, start, finish, settle};
+ghost use Rattle.sc_law.specs.Turn.{after, turn, start, finish, settle};
 ghost use Rattle.sc_turn.specs.Given.{Gives};
-ghost use Rattle.sc_turn.specs.States.{CanBegin, IsOver, state_of};
+ghost use Rattle.sc_turn.specs.States.{CanBegin, IsOver, begun, bound_by, state_of};
 ghost use Rattle.sc_types.specs.declared.session.SessionState.{SessionState as Session};
 
 use crate::beginning::begin;
@@ -14,7 +15,7 @@ use sc_base::{NoMemory, Plain};
 use sc_exec::first_data;
 use sc_law::{Engine, Turned};
 use sc_micro::enter_first;
-use sc_types::{Chart, Cue, How, Phase, SessionState};
+use sc_types::{Chart, Cue, Event, How, Phase, SessionState};
 use std::alloc::Global;
 use std::sync::Arc;
 
@@ -53,9 +54,19 @@ fn given(
     requires { CanBegin plan.now before.now }
     ensures { IfOk result (Gives plan.now before.now cue.now) }
 {
-    let mut x = begin(alloc, plan, before)?;
+    let mut x = begin(alloc, plan, before, bound_by(before, cue))?;
     let phase = run(alloc, &mut x, plan, before, cue)?;
     close(alloc, plan.tables(), before, x, phase)
+}
+
+/// The event that `_event` names in the turn of a cue: the one that the cue brings, else the session's.
+fn bound_by<'a>(before: &'a SessionState, cue: &'a Cue) -> Option<&'a Event>
+    ensures { option_copied result ≡ bound_by cue.now before.now.bound }
+{
+    match cue {
+        Cue::External(event) => Some(event),
+        _ => before.bound.as_ref(),
+    }
 }
 
 /// The turn, with what it gave.
@@ -108,7 +119,7 @@ fn run(
     cue: &Cue,
 ) -> Result<Phase, NoMemory>
     requires over { IsOver plan.now x.old }
-    requires begun { state_of x.old ≡ begin plan.now before.now }
+    requires begun { state_of x.old ≡ begun plan.now before.now (bound_by cue.now before.now.bound) }
     ensures value { IfOk result (λ phase. turn plan.now before.now cue.now ≡ after before.now phase (state_of x.new)) }
     ensures over { OnOk result (IsOver plan.now x.new) }
 {
@@ -152,7 +163,6 @@ fn rounds(alloc: Global, x: &mut RunState, plan: &Plan, limit: u64) -> Result<Ph
         → finish plan.now before (settle plan.now limit (state_of x.old)) ≡ after before phase (state_of x.new)) }
     ensures over { OnOk result (IsOver plan.now x.new) }
 {
-    let t = plan.tables();
-    let rested = settle(alloc, x, t, limit)?;
-    finish(alloc, x, t, rested)
+    let rested = settle(alloc, x, plan, limit)?;
+    finish(alloc, x, plan.tables(), rested)
 }

@@ -8,6 +8,7 @@
 mod beginning;
 mod compiled;
 mod ending;
+mod eventless;
 mod finalizing;
 mod ids;
 mod invoking;

@@ -5,8 +5,10 @@ ghost use Rattle.std.specs.Arc.{arc_value};
 ghost use Rattle.sc_law.specs.Legality.{legal_fault};
 ghost use Rattle.sc_law.specs.Runs.{ids};
 ghost use Rattle.sc_law.specs.Turn.{round_limit};
+ghost use Rattle.sc_turn.specs.Eventless.{has_eventless};
 ghost use Rattle.sc_turn.specs.States.{chart_name};
 
+use crate::eventless::has_eventless;
 use crate::ids::chart_ids;
 use crate::limit::round_limit;
 use sc_base::{Bytes, NoMemory};
@@ -18,13 +20,14 @@ use std::marker::Model;
 use std::sync::Arc;
 
 /// What the turns of a chart need, made once: its tables, the ids that `In` knows, the limit on the rounds of a turn,
-/// and its name.
+/// its name, and whether it has transitions without an event.
 #[derive(Drop)]
 pub struct Plan {
     tables: Tables,
     state_ids: Arc<Ids>,
     limit: u64,
     name: Bytes,
+    has_eventless: bool,
 }
 
 impl Model for Plan {
@@ -35,6 +38,7 @@ impl Model for Plan {
     ghost use Rattle.std.specs.Coded.{codes};
     ghost use Rattle.sc_law.specs.Runs.{ids};
     ghost use Rattle.sc_law.specs.Turn.{round_limit};
+    ghost use Rattle.sc_turn.specs.Eventless.{has_eventless};
     ghost use Rattle.sc_turn.specs.States.{chart_name};
 
     ghost Value = { Chart };
@@ -44,7 +48,7 @@ impl Model for Plan {
     ghost view = { λ p. p.tables };
 
     ghost invariant = { λ p. (arc_value p.state_ids ≡ ids p.tables) × (p.limit ≡ round_limit p.tables)
-        × (p.name ≡ chart_name p.tables) };
+        × (p.name ≡ chart_name p.tables) × (p.has_eventless ≡ has_eventless p.tables) };
 }
 
 impl Plan {
@@ -57,7 +61,8 @@ impl Plan {
         let name = chart_name(alloc, chart)?;
         let tables = build(alloc, chart)?;
         let state_ids = shared_ids(alloc, &tables)?;
-        Ok(joined(tables, state_ids, limit, name))
+        let has_eventless = has_eventless(&tables);
+        Ok(joined(tables, state_ids, limit, name, has_eventless))
     }
 
     pub(crate) fn tables(&self) -> &Tables
@@ -97,6 +102,13 @@ impl Plan {
     {
         &self.name
     }
+
+    /// Whether the chart has a transition without an event.
+    pub(crate) fn has_eventless(&self) -> bool
+        ensures { result ≡ has_eventless self.now }
+    {
+        self.has_eventless
+    }
 }
 
 fn chart_name(alloc: Global, chart: &Chart) -> Result<Bytes, NoMemory>
@@ -116,10 +128,11 @@ fn shared_ids(alloc: Global, t: &Tables) -> Result<Arc<Ids>, NoMemory>
     Ok(Arc::new(alloc, rows)?)
 }
 
-fn joined(tables: Tables, state_ids: Arc<Ids>, limit: u64, name: Bytes) -> Plan
+fn joined(tables: Tables, state_ids: Arc<Ids>, limit: u64, name: Bytes, has_eventless: bool) -> Plan
     requires ids { arc_value state_ids ≡ ids tables }
     requires limit { limit ≡ round_limit tables }
     requires name { name ≡ chart_name tables }
+    requires eventless { has_eventless ≡ has_eventless tables }
     ensures { result ≡ tables }
 {
     Plan {
@@ -127,5 +140,6 @@ fn joined(tables: Tables, state_ids: Arc<Ids>, limit: u64, name: Bytes) -> Plan
         state_ids,
         limit,
         name,
+        has_eventless,
     }
 }
