@@ -11,19 +11,20 @@ use crate::blocks::{kids_of, run_tagged};
 use sc_base::{NoMemory, Plain, Sequence};
 use sc_bits::Row;
 use sc_exec::Running;
+use sc_select::ShortList;
 use sc_tables::Tables;
 use sc_types::{Effect, Invoked, Tag};
 use std::alloc::Global;
 
 /// The members of a row of states.
-pub(crate) fn members(alloc: Global, t: &Tables, row: &Row) -> Result<Sequence<u32>, NoMemory>
+pub(crate) fn members(alloc: Global, t: &Tables, row: &Row) -> Result<ShortList, NoMemory>
     requires { row.now.width ≡ state_count t.now }
     ensures value { IfOk result (λ ms. ms ≡ row.now.members) }
     ensures within { IfOk result (λ ms. All (λ m. m < state_count t.now) ms) }
 {
     // The number of the root is past every state's.
     let _root = t.count();
-    let mut members = Sequence::new(alloc);
+    let mut members = ShortList::new(alloc);
     let mut from = 0;
     while let Some(member) = row.next(from) {
         members.push(member)?;
@@ -38,7 +39,7 @@ pub(crate) fn leave_all(
     alloc: Global,
     run: &mut Running,
     t: &Tables,
-    states: Sequence<u32>,
+    states: ShortList,
 ) -> Result<(), NoMemory>
     requires run { IsRunOf t.now run.old }
     requires states { All (λ s. s < state_count t.now) states }

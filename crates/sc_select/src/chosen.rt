@@ -10,7 +10,8 @@ ghost use Rattle.sc_eval.specs.Envs.{HasIds};
 ghost use Rattle.sc_select.specs.Runs.{IsRunOf};
 
 use crate::enabled::first_enabled;
-use sc_base::{NoMemory, Sequence};
+use crate::short_list::ShortList;
+use sc_base::NoMemory;
 use sc_exec::Running;
 use sc_tables::Tables;
 use sc_types::StateKind;
@@ -24,7 +25,7 @@ fn is_atomic(t: &Tables, s: u32) -> bool
 }
 
 /// Adds a transition that was found, where it wasn't chosen yet.
-fn choose(chosen: &mut Sequence<u32>, found: Option<u32>) -> Result<(), NoMemory>
+fn choose(chosen: &mut ShortList, found: Option<u32>) -> Result<(), NoMemory>
     ensures { OnOk result (chosen.new ≡ choose chosen.old found) }
 {
     match found {
@@ -33,7 +34,7 @@ fn choose(chosen: &mut Sequence<u32>, found: Option<u32>) -> Result<(), NoMemory
     }
 }
 
-fn choose_once(chosen: &mut Sequence<u32>, tr: u32) -> Result<(), NoMemory>
+fn choose_once(chosen: &mut ShortList, tr: u32) -> Result<(), NoMemory>
     ensures { OnOk result (chosen.new ≡ choose chosen.old (Some tr)) }
 {
     if chosen.slice().contains(&tr) {
@@ -49,7 +50,7 @@ fn add_choice(
     t: &Tables,
     event: Option<&[u8]>,
     s: u32,
-    chosen: &mut Sequence<u32>,
+    chosen: &mut ShortList,
 ) -> Result<(), NoMemory>
     requires ids { HasIds run.old.env }
     requires s { s < state_count t.now }
@@ -83,14 +84,14 @@ pub(crate) fn chosen(
     run: &mut Running,
     t: &Tables,
     event: Option<&[u8]>,
-) -> Result<Sequence<u32>, NoMemory>
+) -> Result<ShortList, NoMemory>
     requires run { IsRunOf t.now run.old }
     ensures ok { IfOk result (λ trs. chosen_from t.now (option_copied event.entry) []
         (filter (is_atomic t.now) run.old.env.configuration.members) (running_of run.old) ≡ (trs, running_of run.new)) }
     ensures within { IfOk result (λ trs. All (λ tr. tr < length (transition_paths t.now)) trs) }
     ensures kept { KeepsRows run.old run.new }
 {
-    let mut chosen = Sequence::new(alloc);
+    let mut chosen = ShortList::new(alloc);
     // The number of the root is past every state's.
     let _root = t.count();
     let mut from = 0;

@@ -6,7 +6,8 @@ ghost use Rattle.sc_law.specs.Transitions.{source, transition_paths};
 ghost use Rattle.sc_law.specs.Tree.{is_below, state_count};
 ghost use Rattle.sc_sets.specs.Conditions.{KeepsStates};
 
-use sc_base::{NoMemory, Sequence};
+use crate::short_list::ShortList;
+use sc_base::NoMemory;
 use sc_bits::Row;
 use sc_sets::{Histories, exit_row};
 use sc_tables::Tables;
@@ -105,7 +106,7 @@ pub(crate) fn without_conflicts(
     kept: &[u32],
     own: &Row,
     into: &mut Row,
-) -> Result<Sequence<u32>, NoMemory>
+) -> Result<ShortList, NoMemory>
     requires histories { KeepsStates t.now h.now }
     requires width { conf.now.width ≡ state_count t.now }
     requires kept { All (λ u. u < length (transition_paths t.now)) kept.now }
@@ -115,7 +116,7 @@ pub(crate) fn without_conflicts(
     ensures value { IfOk result (λ rest. rest ≡ filter (λ u. not (conflicts t.now h.now conf.now.members tr u)) kept.now) }
     ensures width { into.new.width ≡ state_count t.now }
 {
-    let mut rest = Sequence::new(alloc);
+    let mut rest = ShortList::new(alloc);
     for other in kept {
         let conflict = is_conflict(t, h, conf, tr, *other, own, into);
         push_unless(&mut rest, conflict, *other)?;
@@ -123,7 +124,7 @@ pub(crate) fn without_conflicts(
     Ok(rest)
 }
 
-fn push_unless(rest: &mut Sequence<u32>, conflict: bool, tr: u32) -> Result<(), NoMemory>
+fn push_unless(rest: &mut ShortList, conflict: bool, tr: u32) -> Result<(), NoMemory>
     ensures { OnOk result (rest.new ≡ rest.old ++ (if conflict then [] else tr ∷ [])) }
 {
     if conflict { Ok(()) } else { rest.push(tr) }

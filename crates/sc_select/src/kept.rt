@@ -8,7 +8,8 @@ ghost use Rattle.sc_select.specs.Exits.{AreExits};
 
 use crate::conflicts::{gives_way_to_one, without_conflicts};
 use crate::exits::exit_union;
-use sc_base::{NoMemory, Sequence};
+use crate::short_list::ShortList;
+use sc_base::NoMemory;
 use sc_bits::Row;
 use sc_sets::{Histories, exit_row};
 use sc_tables::Tables;
@@ -43,8 +44,8 @@ pub(crate) fn kept(
     t: &Tables,
     h: &Histories,
     conf: &Row,
-    chosen: Sequence<u32>,
-) -> Result<Sequence<u32>, NoMemory>
+    chosen: ShortList,
+) -> Result<ShortList, NoMemory>
     requires kept { KeepsStates t.now h.now }
     requires width { conf.now.width ≡ state_count t.now }
     requires chosen { All (λ tr. tr < length (transition_paths t.now)) chosen }
@@ -64,7 +65,7 @@ fn kept_of(
     h: &Histories,
     conf: &Row,
     chosen: &[u32],
-) -> Result<Sequence<u32>, NoMemory>
+) -> Result<ShortList, NoMemory>
     requires kept { KeepsStates t.now h.now }
     requires width { conf.now.width ≡ state_count t.now }
     requires chosen { All (λ tr. tr < length (transition_paths t.now)) chosen.now }
@@ -72,7 +73,7 @@ fn kept_of(
     ensures within { IfOk result (λ trs. All (λ tr. tr < length (transition_paths t.now)) trs) }
 {
     let mut exits = Exits::new(alloc, t, h, conf)?;
-    let mut kept = Sequence::new(alloc);
+    let mut kept = ShortList::new(alloc);
     for tr in chosen {
         keep(alloc, t, h, conf, *tr, &mut kept, &mut exits)?;
     }
@@ -86,7 +87,7 @@ fn keep(
     h: &Histories,
     conf: &Row,
     tr: u32,
-    kept: &mut Sequence<u32>,
+    kept: &mut ShortList,
     exits: &mut Exits,
 ) -> Result<(), NoMemory>
     requires histories { KeepsStates t.now h.now }
@@ -115,7 +116,7 @@ fn replace(
     h: &Histories,
     conf: &Row,
     tr: u32,
-    kept: &mut Sequence<u32>,
+    kept: &mut ShortList,
     exits: &mut Exits,
 ) -> Result<(), NoMemory>
     requires histories { KeepsStates t.now h.now }

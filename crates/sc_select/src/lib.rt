@@ -11,6 +11,8 @@ mod exits;
 mod kept;
 mod matching;
 mod selection;
+mod short_list;
 
 pub use exits::exit_union;
 pub use selection::{eventless, for_event};
+pub use short_list::ShortList;

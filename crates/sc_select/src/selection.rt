@@ -8,7 +8,8 @@ ghost use Rattle.sc_select.specs.Runs.{IsRunOf, run_state};
 
 use crate::chosen::chosen;
 use crate::kept::kept;
-use sc_base::{NoMemory, Sequence};
+use crate::short_list::ShortList;
+use sc_base::NoMemory;
 use sc_exec::Running;
 use sc_sets::Histories;
 use sc_tables::Tables;
@@ -21,7 +22,7 @@ pub fn eventless(
     run: &mut Running,
     t: &Tables,
     h: &Histories,
-) -> Result<Sequence<u32>, NoMemory>
+) -> Result<ShortList, NoMemory>
     requires run { IsRunOf t.now run.old }
     requires kept { KeepsStates t.now h.now }
     ensures ok { IfOk result (λ trs. select t.now None (run_state run.old h.now)
@@ -40,7 +41,7 @@ pub fn for_event(
     t: &Tables,
     h: &Histories,
     name: &[u8],
-) -> Result<Sequence<u32>, NoMemory>
+) -> Result<ShortList, NoMemory>
     requires run { IsRunOf t.now run.old }
     requires kept { KeepsStates t.now h.now }
     ensures ok { IfOk result (λ trs. select t.now (Some name.now) (run_state run.old h.now)
@@ -58,7 +59,7 @@ fn select(
     t: &Tables,
     h: &Histories,
     event: Option<&[u8]>,
-) -> Result<Sequence<u32>, NoMemory>
+) -> Result<ShortList, NoMemory>
     requires run { IsRunOf t.now run.old }
     requires kept { KeepsStates t.now h.now }
     ensures ok { IfOk result (λ trs. select t.now (option_copied event.entry) (run_state run.old h.now)

@@ -50,6 +50,14 @@ one-in-range p a (suc n) m l u h = by (m == a) refl where
       let more : a + 1 ≤ m = grind (arith, nat_tests) in
       ap (λ v. p a || v) (one-in-range p (a + 1) n m more (omega (arith, u)) h) ∙ or-true (p a)
 
+-- one number more
+pub one-more : (p : ℕ → Bool) (n : ℕ) → list_any p (range_with_len 0 n) ≡ false → p n ≡ false
+    → list_any p (range_with_len 0 (n + 1)) ≡ false
+one-more p n h e = none-in-range p 0 (n + 1) (λ m l u. by m l u (m == n) refl) where
+  by : (m : ℕ) → 0 ≤ m → m < 0 + (n + 1) → (v : Bool) → (m == n) ≡ v → p m ≡ false
+  by m l u true t = let same : m ≡ n = grind (arith, nat_tests) in ap p same ∙ e
+  by m l u false t = let less : m < 0 + n = grind (arith, nat_tests) in none-passes p 0 n h m l less
+
 -- none of these transitions is taken without an event
 abbrev AreForEvents : Chart → List ℕ → Type 0
 AreForEvents c ts = AllOf (λ t. is_match c None t ≡ false) ts

@@ -10,9 +10,9 @@ use crate::finalizing::finalize;
 use crate::invoking::start_invokes;
 use crate::plan::Plan;
 use crate::run_state::RunState;
-use sc_base::{NoMemory, Plain, Sequence};
+use sc_base::{NoMemory, Plain};
 use sc_micro::microstep;
-use sc_select::{eventless, for_event};
+use sc_select::{ShortList, eventless, for_event};
 use sc_tables::Tables;
 use sc_types::Event;
 use std::alloc::Global;
@@ -23,13 +23,13 @@ pub(crate) enum Round {
     /// There is no round: the run rests, or has stopped.
     Rest,
     /// Transitions without an event.
-    Eventless(Sequence<u32>),
+    Eventless(ShortList),
     /// The front of the internal queue.
     Internal,
 }
 
 /// The transitions that are taken without an event. Where the chart has none, no state is asked for them.
-fn without_event(alloc: Global, x: &mut RunState, plan: &Plan) -> Result<Sequence<u32>, NoMemory>
+fn without_event(alloc: Global, x: &mut RunState, plan: &Plan) -> Result<ShortList, NoMemory>
     requires { IsOver plan.now x.old }
     ensures ok { IfOk result (λ trs. select plan.now None (state_of x.old)
         ≡ record { transitions = trs; run = state_of x.new }) }
@@ -37,7 +37,7 @@ fn without_event(alloc: Global, x: &mut RunState, plan: &Plan) -> Result<Sequenc
     ensures over { OnOk result (IsOver plan.now x.new) }
 {
     if !plan.has_eventless() {
-        return Ok(Sequence::new(alloc));
+        return Ok(ShortList::new(alloc));
     }
     eventless(alloc, &mut x.running, plan.tables(), &x.histories)
 }
