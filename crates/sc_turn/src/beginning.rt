@@ -1,4 +1,4 @@
-ghost use Rattle.std.specs.Prelude.{◌≡◌, [], IfOk, None};
+ghost use Rattle.std.specs.Prelude.{◌≡◌, [], IfOk};
 ghost use Rattle.std.specs.Arc.{arc_value};
 ghost use Rattle.sc_law.specs.Turn.{begin_env};
 ghost use Rattle.sc_law.specs.Tree.{state_count};
@@ -36,22 +36,25 @@ pub(crate) fn begin(
     ensures over { IfOk result (IsOver plan.now) }
 {
     let histories = before.histories.copy()?;
-    let mut running = begin_running(alloc, plan, before)?;
-    if let Some(event) = bound {
-        running.env.bound = Some(event.copy()?);
-    }
+    let running = begin_running(alloc, plan, before, bound)?;
     Ok(RunState { running, histories })
 }
 
-/// With no event as `_event`. In parts: an early exit then has few values to drop.
-fn begin_running(alloc: Global, plan: &Plan, before: &SessionState) -> Result<Running, NoMemory>
+/// In parts: an early exit then has few values to drop.
+fn begin_running(
+    alloc: Global,
+    plan: &Plan,
+    before: &SessionState,
+    bound: Option<&Event>,
+) -> Result<Running, NoMemory>
     requires { CanBegin plan.now before.now }
-    ensures value { IfOk result (λ r. running_of r ≡ (begun plan.now before.now None).running) }
+    ensures value { IfOk result (λ r.
+        running_of r ≡ (begun plan.now before.now (option_copied bound.entry)).running) }
     ensures over { IfOk result (IsRunOf plan.now) }
 {
     let (internal, invokes) = waiting(before)?;
     let (entered, todo) = rows(alloc, plan, before)?;
-    let env = begin_env(alloc, plan, before)?;
+    let env = begin_env(alloc, plan, before, bound)?;
     Ok(Running {
         env,
         entered,
@@ -101,10 +104,25 @@ fn table(alloc: Global, before: &SessionState) -> Result<DataTable, NoMemory>
     DataTable::from_values(alloc, values)
 }
 
-/// What expressions read at the beginning of a turn, with no event as `_event`.
-fn begin_env(alloc: Global, plan: &Plan, before: &SessionState) -> Result<Env, NoMemory>
+fn copied(event: Option<&Event>) -> Result<Option<Event>, NoMemory>
+    ensures { IfOk result (λ e. e ≡ option_copied event.entry) }
+{
+    match event {
+        Some(event) => Ok(Some(event.copy()?)),
+        None => Ok(None),
+    }
+}
+
+/// What expressions read at the beginning of a turn.
+fn begin_env(
+    alloc: Global,
+    plan: &Plan,
+    before: &SessionState,
+    bound: Option<&Event>,
+) -> Result<Env, NoMemory>
     requires { CanBegin plan.now before.now }
-    ensures value { IfOk result (λ e. env_of e ≡ begin_env plan.now (record before.now { bound = None })) }
+    ensures value { IfOk result (λ e.
+        env_of e ≡ begin_env plan.now (record before.now { bound = option_copied bound.entry })) }
     ensures width { IfOk result (λ e. e.configuration.width ≡ state_count plan.now) }
     ensures ids { IfOk result (λ e. arc_value e.ids ≡ ids plan.now) }
 {
@@ -112,11 +130,12 @@ fn begin_env(alloc: Global, plan: &Plan, before: &SessionState) -> Result<Env, N
     let configuration = row_of(alloc, plan.tables(), before.configuration.slice())?;
     let values = table(alloc, before)?;
     let ids = Arc::try_clone(plan.ids())?;
+    let bound = copied(bound)?;
     Ok(Env {
         values,
         configuration,
         ids,
-        bound: None,
+        bound,
         session,
         chart_name,
     })
