@@ -1,10 +1,11 @@
 -- Where a chart has no transition without an event, selection without one takes nothing.
-use Rattle.std.proofs.Common.{◌≡◌, ℕ, ◌+◌, ◌<◌, ◌≤◌, ◌==◌, ◌||◌, zero, suc, Bool, true, false, cond, Option, None, List, [], ◌∷◌, ◌++◌, flat_map, length, refl, arith, ap, ◌∙◌}
+use Rattle.std.proofs.Common.{◌≡◌, ℕ, ◌+◌, ◌<◌, ◌≤◌, ◌==◌, ◌||◌, zero, suc, Bool, true, false, cond, Option, None, List, [], ◌∷◌, ◌++◌, filter, flat_map, length, refl, arith, ap, ◌∙◌}
 use Rattle.std.proofs.lemmas.Bool.Decides.{nat_tests}
 use Rattle.std.specs.List.{list_any, range_with_len, AllByRecursion as AllOf}
 use Rattle.sc_types.specs.declared.chart.Chart.{Chart}
+use Rattle.sc_law.specs.Kinds.{is_atomic}
 use Rattle.sc_law.specs.Runs.{RunState, Running}
-use Rattle.sc_law.specs.Selection.{Selected, candidates, choose, chosen_from, first_enabled, found_or, select, selected}
+use Rattle.sc_law.specs.Selection.{candidates, choose, chosen_from, first_enabled, found_or, select, selected}
 use Rattle.sc_law.specs.Transitions.{is_match, transition_paths, transitions_of}
 use Rattle.sc_law.specs.Tree.{ancestors}
 use Rattle.sc_tables.proofs.Numbers.{AreBelow, numbers-below}
@@ -19,13 +20,11 @@ none-passes : (p : ℕ → Bool) (a n : ℕ) → list_any p (range_with_len a n)
 none-passes p a zero h m l u = absurd (omega (arith, l, u))
 none-passes p a (suc n) h m l u =
     let parts = or-false (p a) (list_any p (range_with_len (a + 1) n)) h in
-    by (m == a) refl parts.0 parts.1
+    by (m == a) refl parts.0 (λ more. none-passes p (a + 1) n parts.1 m more (omega (arith, u)))
   where
-    by : (v : Bool) → (m == a) ≡ v → p a ≡ false → list_any p (range_with_len (a + 1) n) ≡ false → p m ≡ false
+    by : (v : Bool) → (m == a) ≡ v → p a ≡ false → (a + 1 ≤ m → p m ≡ false) → p m ≡ false
     by true e here later = let same : m ≡ a = grind (arith, nat_tests) in ap p same ∙ here
-    by false e here later =
-        let more : a + 1 ≤ m = grind (arith, nat_tests) in
-        none-passes p (a + 1) n later m more (omega (arith, u))
+    by false e here later = let more : a + 1 ≤ m = grind (arith, nat_tests) in later more
 
 -- a test that no number of a range passes finds none in it
 pub none-in-range : (p : ℕ → Bool) (a n : ℕ) → ((m : ℕ) → a ≤ m → m < a + n → p m ≡ false) → list_any p (range_with_len a n) ≡ false
@@ -41,14 +40,17 @@ or-true false = refl
 -- a number of a range that passes a test is found in it
 pub one-in-range : (p : ℕ → Bool) (a n m : ℕ) → a ≤ m → m < a + n → p m ≡ true → list_any p (range_with_len a n) ≡ true
 one-in-range p a zero m l u h = absurd (omega (arith, l, u))
-one-in-range p a (suc n) m l u h = by (m == a) refl where
-  by : (v : Bool) → (m == a) ≡ v → list_any p (range_with_len a (suc n)) ≡ true
-  by true e =
-      let same : a ≡ m = grind (arith, nat_tests) in
-      ap (λ v. v || list_any p (range_with_len (a + 1) n)) (ap p same ∙ h)
-  by false e =
-      let more : a + 1 ≤ m = grind (arith, nat_tests) in
-      ap (λ v. p a || v) (one-in-range p (a + 1) n m more (omega (arith, u)) h) ∙ or-true (p a)
+one-in-range p a (suc n) m l u h =
+    by (m == a) refl (λ more. one-in-range p (a + 1) n m more (omega (arith, u)) h)
+  where
+    by : (v : Bool) → (m == a) ≡ v → (a + 1 ≤ m → list_any p (range_with_len (a + 1) n) ≡ true)
+        → list_any p (range_with_len a (suc n)) ≡ true
+    by true e later =
+        let same : a ≡ m = grind (arith, nat_tests) in
+        ap (λ v. v || list_any p (range_with_len (a + 1) n)) (ap p same ∙ h)
+    by false e later =
+        let more : a + 1 ≤ m = grind (arith, nat_tests) in
+        ap (λ v. p a || v) (later more) ∙ or-true (p a)
 
 -- one number more
 pub one-more : (p : ℕ → Bool) (n : ℕ) → list_any p (range_with_len 0 n) ≡ false → p n ≡ false
@@ -98,4 +100,5 @@ chosen-none c (s ∷ ss) r h =
 -- without transitions of that kind nothing is selected, and no condition is evaluated
 pub none-selected : (c : Chart) (x : RunState) → has_eventless c ≡ false → select c None x ≡ record { transitions = []; run = x }
 unfolding select
-none-selected c x h = ap (selected c x) (chosen-none c _ x.running h)
+none-selected c x h =
+    ap (selected c x) (chosen-none c (filter (is_atomic c) x.running.env.configuration) x.running h)

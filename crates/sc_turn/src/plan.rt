@@ -27,7 +27,7 @@ pub struct Plan {
     state_ids: Arc<Ids>,
     limit: u64,
     name: Bytes,
-    has_eventless: bool,
+    eventless: bool,
 }
 
 impl Model for Plan {
@@ -48,7 +48,7 @@ impl Model for Plan {
     ghost view = { λ p. p.tables };
 
     ghost invariant = { λ p. (arc_value p.state_ids ≡ ids p.tables) × (p.limit ≡ round_limit p.tables)
-        × (p.name ≡ chart_name p.tables) × (p.has_eventless ≡ has_eventless p.tables) };
+        × (p.name ≡ chart_name p.tables) × (p.eventless ≡ has_eventless p.tables) };
 }
 
 impl Plan {
@@ -61,8 +61,8 @@ impl Plan {
         let name = chart_name(alloc, chart)?;
         let tables = build(alloc, chart)?;
         let state_ids = shared_ids(alloc, &tables)?;
-        let has_eventless = has_eventless(&tables);
-        Ok(joined(tables, state_ids, limit, name, has_eventless))
+        let eventless = has_eventless(&tables);
+        Ok(joined(tables, state_ids, limit, name, eventless))
     }
 
     pub(crate) fn tables(&self) -> &Tables
@@ -107,7 +107,7 @@ impl Plan {
     pub(crate) fn has_eventless(&self) -> bool
         ensures { result ≡ has_eventless self.now }
     {
-        self.has_eventless
+        self.eventless
     }
 }
 
@@ -128,11 +128,11 @@ fn shared_ids(alloc: Global, t: &Tables) -> Result<Arc<Ids>, NoMemory>
     Ok(Arc::new(alloc, rows)?)
 }
 
-fn joined(tables: Tables, state_ids: Arc<Ids>, limit: u64, name: Bytes, has_eventless: bool) -> Plan
+fn joined(tables: Tables, state_ids: Arc<Ids>, limit: u64, name: Bytes, eventless: bool) -> Plan
     requires ids { arc_value state_ids ≡ ids tables }
     requires limit { limit ≡ round_limit tables }
     requires name { name ≡ chart_name tables }
-    requires eventless { has_eventless ≡ has_eventless tables }
+    requires eventless { eventless ≡ has_eventless tables }
     ensures { result ≡ tables }
 {
     Plan {
@@ -140,6 +140,6 @@ fn joined(tables: Tables, state_ids: Arc<Ids>, limit: u64, name: Bytes, has_even
         state_ids,
         limit,
         name,
-        has_eventless,
+        eventless,
     }
 }

@@ -1,5 +1,4 @@
 use Rattle.std.proofs.Common.{List, ℕ, ap, sym, ◌∙◌}
-use Rattle.sc_law.specs.Selection.{Selected}
 use Rattle.sc_turn.specs.States.{state_of}
 use Rattle.sc_turn.proofs.EventlessLemmas.{none-selected}
 use Rattle.sc_turn.proofs.rounds.without_event.Goals as goal
