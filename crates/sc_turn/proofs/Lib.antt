@@ -5,5 +5,6 @@ pub mod FitsLaw
 pub mod IdLists
 pub mod KidLemmas
 pub mod Rising
+pub mod SettleLemmas
 pub mod StartLemmas
 pub mod StepLemmas

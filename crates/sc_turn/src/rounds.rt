@@ -111,23 +111,23 @@ fn take_event(alloc: Global, x: &mut RunState, t: &Tables, event: Event) -> Resu
 }
 
 /// Takes a round.
-fn take(alloc: Global, x: &mut RunState, t: &Tables, round: Round) -> Result<(), NoMemory>
-    requires over { IsOver t.now x.old }
-    requires transitions { AreOf t.now round }
-    ensures ok { OnOk result (taken t.now round (state_of x.old) ≡ state_of x.new) }
-    ensures over { OnOk result (IsOver t.now x.new) }
+fn take(alloc: Global, x: &mut RunState, plan: &Plan, round: Round) -> Result<(), NoMemory>
+    requires over { IsOver plan.now x.old }
+    requires transitions { AreOf plan.now round }
+    ensures ok { OnOk result (taken plan.now round (state_of x.old) ≡ state_of x.new) }
+    ensures over { OnOk result (IsOver plan.now x.new) }
 {
     match round {
         Round::Rest => Ok(()),
         Round::Eventless(transitions) => microstep(
             alloc,
             &mut x.running,
-            t,
+            plan.tables(),
             &mut x.histories,
             transitions.slice(),
         ),
         Round::Internal => match x.running.internal.pop_front() {
-            Some(event) => take_event(alloc, x, t, event),
+            Some(event) => take_event(alloc, x, plan.tables(), event),
             None => Ok(()),
         },
     }
@@ -154,7 +154,7 @@ pub(crate) fn settle(
         if left == 0 {
             return Ok(false);
         }
-        take(alloc, x, plan.tables(), round)?;
+        take(alloc, x, plan, round)?;
         left -= 1;
     }
 }
