@@ -1,5 +1,5 @@
 -- The ids of the states up to one.
-use Rattle.std.proofs.Common.{◌≡◌, ℕ, ◌+◌, ◌++◌, zero, suc, Option, Some, None, List, [], ◌∷◌, filter_map, refl, arith, ap, sym, ◌∙◌, add-one}
+use Rattle.std.proofs.Common.{◌≡◌, ℕ, ◌+◌, ◌++◌, zero, suc, Option, Some, None, List, [], filter_map, refl, arith, ap, ◌∙◌, add-one}
 use Rattle.std.specs.List.{cons_option, range_with_len}
 
 module _ {A : Type 0} where

@@ -1,5 +1,5 @@
 -- How an invoke is started, one check after another.
-use Rattle.std.proofs.Common.{◌≡◌, ℕ, ◌+◌, ◌++◌, Bool, true, false, cond, Option, Some, None, Ok, Err, List, [], ◌∷◌, map, refl, ap, ap₂, sym, ◌∙◌}
+use Rattle.std.proofs.Common.{◌≡◌, ℕ, ◌+◌, ◌++◌, true, cond, Option, Some, Ok, Err, List, [], ◌∷◌, map, refl, ap, sym, ◌∙◌}
 use Rattle.std.specs.Option.{option_map_or}
 use Rattle.sc_base.specs.Folds.{each}
 use Rattle.sc_types.specs.Attributes.{Members, words_at}

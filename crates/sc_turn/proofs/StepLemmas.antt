@@ -1,5 +1,5 @@
 -- Steps over the members of a row, and over the invoke elements of a state.
-use Rattle.std.proofs.Common.{◌≡◌, ℕ, ◌+◌, ◌<◌, ◌≤◌, nat_le, Bool, true, false, cond, Some, None, List, [], ◌∷◌, drop, filter, find, length, get_or, refl, ap, ap₂, sym, ◌∙◌, add-one, drop-cons}
+use Rattle.std.proofs.Common.{◌≡◌, ℕ, ◌+◌, ◌≤◌, nat_le, Some, None, List, [], ◌∷◌, drop, filter, find, length, refl, ap, ap₂, sym, ◌∙◌}
 use Rattle.std.proofs.lemmas.List.{drop_all}
 use Rattle.std.specs.List.{enumerate_from}
 use Rattle.sc_base.specs.Folds.{each}

@@ -1,7 +1,7 @@
 use Rattle.std.proofs.Common.{◌≡◌, drop}
 use Rattle.sc_base.specs.Folds.{each}
 use Rattle.sc_types.specs.declared.session.Invoked.{Invoked}
-use Rattle.sc_law.specs.Invokes.{finalized, forwarded, running_of as invokes_of_element}
+use Rattle.sc_law.specs.Invokes.{finalized, forwarded}
 use Rattle.sc_law.specs.Runs.{Running}
 use Rattle.sc_eval.specs.Envs.{HasIds}
 use Rattle.sc_exec.specs.Runs.{KeepsRows, running_of}

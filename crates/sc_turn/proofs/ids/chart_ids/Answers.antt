@@ -1,4 +1,4 @@
-use Rattle.std.proofs.Common.{◌≡◌, ◌++◌, [], ap, sym, ◌∙◌}
+use Rattle.std.proofs.Common.{◌++◌, [], ap, sym, ◌∙◌}
 use Rattle.std.specs.List.{cons_option}
 use Rattle.sc_law.specs.Runs.{id_row}
 use Rattle.sc_turn.proofs.IdLists.{ids-more}

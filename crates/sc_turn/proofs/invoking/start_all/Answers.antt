@@ -1,4 +1,4 @@
-use Rattle.std.proofs.Common.{◌+◌, refl, ap, sym, ◌∙◌}
+use Rattle.std.proofs.Common.{refl, ap, sym, ◌∙◌}
 use Rattle.sc_bits.specs.Rows.{RowOf}
 use Rattle.sc_base.specs.Folds.{each}
 use Rattle.sc_law.specs.Invokes.{start_of}

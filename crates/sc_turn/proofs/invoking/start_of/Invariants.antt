@@ -3,7 +3,7 @@ use Rattle.std.specs.List.{enumerate_from}
 use Rattle.sc_base.specs.Folds.{each}
 use Rattle.sc_types.specs.declared.chart.Node.{Node}
 use Rattle.sc_types.specs.declared.chart.Tag.TheVariants as tag
-use Rattle.sc_law.specs.Invokes.{start_invoke, start_of}
+use Rattle.sc_law.specs.Invokes.{start_invoke}
 use Rattle.sc_law.specs.Nodes.{is_tag, tag_of}
 use Rattle.sc_exec.specs.Runs.{KeepsRows, running_of}
 use Rattle.sc_select.specs.Runs.{IsRunOf}

@@ -1,5 +1,4 @@
-use Rattle.std.proofs.Common.{◌≡◌, ◌+◌, ◌++◌, ◌&&◌, drop, nat_lt, not, true, ap, ◌∙◌}
-use Rattle.std.specs.List.{list_all}
+use Rattle.std.proofs.Common.{◌+◌, ◌++◌, ◌&&◌, drop, nat_lt, not, ap, ◌∙◌}
 use Rattle.sc_bits.specs.Rows.{RowOf}
 use Rattle.sc_law.specs.Fitting.{rises}
 use Rattle.sc_law.specs.Kinds.{is_history}

@@ -1,6 +1,5 @@
 use Rattle.std.proofs.Common.{◌≡◌, ◌++◌, ◌&&◌, drop, nat_lt, not, true}
 use Rattle.std.specs.List.{list_all}
-use Rattle.sc_law.specs.Fitting.{rises}
 use Rattle.sc_law.specs.Kinds.{is_history}
 use Rattle.sc_law.specs.Tree.{state_count}
 use Rattle.sc_turn.proofs.rows.row_of.Given as goal
