@@ -6,6 +6,7 @@ pub mod Counting
 pub mod Cues
 pub mod Deliveries
 pub mod Drafts
+pub mod Endings
 pub mod FittingHosts
 pub mod Histories
 pub mod Hosts

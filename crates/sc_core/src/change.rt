@@ -27,6 +27,12 @@ pub enum Change<P> {
         name: Word,
         session: Session,
     },
+    /// A session is started that the one at a place invoked.
+    Bear {
+        invoker: usize,
+        name: Word,
+        session: Session,
+    },
     /// The state of the session at a place is replaced.
     PutState {
         place: usize,
@@ -49,6 +55,15 @@ pub enum Change<P> {
     /// The next turn of a session is to end it.
     Flag {
         place: usize,
+    },
+    /// The next turn of a session is to end it, and it and its invoker hear no more of one another.
+    CutOff {
+        place: usize,
+    },
+    /// The invocation of a child leaves the list of those that run.
+    DropInvoke {
+        place: usize,
+        child: Word,
     },
     /// A session that has ended is cleared.
     End {
@@ -87,11 +102,18 @@ impl<P: Drop> Body<P> {
             Change::Advance { clock } => self.advance(clock),
             Change::Install { name, chart } => self.install_chart(name, chart),
             Change::Start { name, session } => self.start(name, session),
+            Change::Bear {
+                invoker,
+                name,
+                session,
+            } => self.bear(invoker, name, session),
             Change::PutState { place, state } => self.put_state(place, state),
             Change::TakeFront { place } => self.take_front(place),
             Change::Queue { place, event } => self.queue(place, event),
             Change::Tell { place, event } => self.tell(place, event),
             Change::Flag { place } => self.flag(place),
+            Change::CutOff { place } => self.cut_off(place),
+            Change::DropInvoke { place, child } => self.drop_invoke(place, &child),
             Change::End { place } => self.end(place),
             Change::Delay { send } => self.delay(send),
             Change::Undo { session, id } => self.undo(&session, &id),

@@ -15,8 +15,9 @@ use crate::additions::with_invokeid;
 use crate::aims::{Aim, invokeid_for};
 use crate::body::Body;
 use crate::change::Change;
-use crate::draft::Draft;
+use crate::draft::{Birth, Draft};
 use crate::failures::communication_error;
+use crate::invocations::Invocation;
 use crate::session::{is_live, is_running};
 use sc_base::{NoMemory, Plain, SharedBytes, Word};
 use sc_types::{Delivery, Effect, Event, InvokerImage, Phase, SessionState, TimerImage, To};
@@ -58,9 +59,20 @@ fn count_after<P>(
     }
 }
 
+/// The name of the session at a place that is born in the step under way.
+fn birth_name(births: &[Birth], place: usize) -> Option<&Word>
+{
+    for birth in births {
+        if birth.place == place {
+            return Some(&birth.name);
+        }
+    }
+    None
+}
+
 impl<P: Drop> Body<P> {
     /// The invoker of the session at a place.
-    fn invoker_at(&self, place: usize) -> &Option<InvokerImage>
+    pub(crate) fn invoker_at(&self, place: usize) -> &Option<InvokerImage>
         requires within { place < length self.now.sessions.items }
         ensures { option_map (λ (s : SessionImage). s.invoker) (slice_get (image self.now).sessions place) ≡ Some result.now }
     {
@@ -92,41 +104,45 @@ impl<P: Drop> Body<P> {
         Ok(Delivery::Unreachable)
     }
 
-    /// Prepares that an event reaches the session at a place.
-    fn draft_queue(
+    /// The name of the session at a place, where these are born.
+    pub(crate) fn name_of<'a>(&'a self, births: &'a [Birth], place: usize) -> Option<&'a Word>
+    {
+        match self.sessions.get(place) {
+            Some(session) => Some(&session.state.session),
+            None => birth_name(births, place),
+        }
+    }
+
+    /// Prepares that an event joins the external queue of the session at a place.
+    pub(crate) fn draft_queue(
+        &self,
+        draft: &mut Draft<P>,
+        place: usize,
+        session: Word,
+        event: Event,
+    ) -> Result<Delivery, NoMemory>
+    {
+        let number = draft.events + 1;
+        draft.changes.push(Change::Queue { place, event })?;
+        draft.events = number;
+        Ok(Delivery::Queued { number, session })
+    }
+
+    /// Prepares that an event of the session at a place reaches another.
+    fn draft_reach(
         &self,
         draft: &mut Draft<P>,
         sender: usize,
-        after: &SessionState,
         receiver: usize,
         event: Event,
     ) -> Result<Delivery, NoMemory>
-        requires sender { sender < length self.now.sessions.items }
-        requires there { option_map (λ (s : SessionImage). s.state.session) (slice_get (image self.now).sessions sender)
-            ≡ Some after.now.session }
-        requires receiver { receiver < length self.now.sessions.items }
-        requires number { draft.old.events + 1 < 2 ^ 128 }
-        ensures told { IfOk result (λ told. (g : HostImage) (t : SessionImage)
-            → IsSender (image self.now) sender after.now g draft.old t
-            → Drafts after.now.session g draft.old draft.new
-            (carried (so_far g draft.old) sender t event (aim.Reaches receiver)) told) }
-        ensures number { OnOk result (draft.new.events ≤ draft.old.events + 1) }
     {
-        let Some(session) = self.sessions.get(receiver) else {
+        let Some(name) = self.name_of(draft.births.slice(), receiver) else {
             unreachable!();
         };
-        let name = session.state.session.copy()?;
+        let name = name.copy()?;
         let invokeid = invokeid_for(self.invoker_at(sender), &name)?;
-        let number = draft.events + 1;
-        draft.changes.push(Change::Queue {
-            place: receiver,
-            event: with_invokeid(event, invokeid),
-        })?;
-        draft.events = number;
-        Ok(Delivery::Queued {
-            number,
-            session: name,
-        })
+        self.draft_queue(draft, receiver, name, with_invokeid(event, invokeid))
     }
 
     /// Prepares that the session at a place sends an event.
@@ -149,8 +165,8 @@ impl<P: Drop> Body<P> {
             → Drafts after.now.session g draft.old draft.new (send_now (so_far g draft.old) place t to.now event) told) }
         ensures number { OnOk result (draft.new.events ≤ draft.old.events + 1) }
     {
-        match self.aim(place, after, self.invoker_at(place), to) {
-            Aim::Reaches(receiver) => self.draft_queue(draft, place, after, receiver, event),
+        match self.aim(draft.births.slice(), place, after, self.invoker_at(place), to) {
+            Aim::Reaches(receiver) => self.draft_reach(draft, place, receiver, event),
             Aim::Fails => self.draft_failure(alloc, draft, place, after, &event.sendid),
             Aim::Drops => Ok(Delivery::Dropped),
         }
@@ -257,7 +273,24 @@ impl<P: Drop> Body<P> {
                 self.draft_delay(draft, place, after, to, event, delay)
             }
             Effect::CancelSend { sendid } => self.draft_undo(draft, place, after, sendid),
-            _ => Ok(Delivery::Nothing),
+            Effect::Invoke {
+                invokeid,
+                child,
+                chart,
+                pairs,
+            } => {
+                let invocation = Invocation {
+                    invokeid,
+                    child,
+                    chart,
+                    pairs,
+                };
+                self.draft_invoke(alloc, draft, place, after, invocation)
+            }
+            Effect::CancelChild { child } => self.draft_cancel_child(draft, place, after, child),
+            Effect::Forward { child, event } => {
+                self.draft_forward(draft, place, after, child, event)
+            }
         }
     }
 

@@ -29,6 +29,26 @@ impl<P: Drop> Body<P> {
         self.sessions.item_mut(place).failures.reserve(count)
     }
 
+    /// Makes room for so many more children of the session at a place.
+    fn reserve_children(&mut self, place: usize, count: usize) -> Result<(), NoMemory>
+        requires agrees { Agrees self.old }
+        requires within { place < length self.old.sessions.items }
+        ensures keeps { Keeps self.old self.new }
+        ensures charts { self.new.charts.items ≡ self.old.charts.items }
+        ensures ok { OnOk result (count ≤ children_room self.new place) }
+    {
+        self.sessions.item_mut(place).children.reserve(count)
+    }
+
+    /// Makes room for so many more events in the external queue of the session at a place, where it is there already.
+    fn reserve_target(&mut self, place: usize, count: usize) -> Result<(), NoMemory>
+    {
+        if place >= self.sessions.len() {
+            return Ok(());
+        }
+        self.reserve_queue(place, count)
+    }
+
     /// Makes room for so many changes where one puts something.
     fn make_room_for(&mut self, change: &Change<P>, count: usize) -> Result<(), NoMemory>
         requires agrees { Agrees self.old }
@@ -40,7 +60,11 @@ impl<P: Drop> Body<P> {
         match change {
             Change::Install { .. } => self.charts.reserve(count),
             Change::Start { .. } => self.sessions.reserve(count),
-            Change::Queue { place, .. } => self.reserve_queue(*place, count),
+            Change::Bear { invoker, .. } => {
+                self.sessions.reserve(count)?;
+                self.reserve_children(*invoker, count)
+            }
+            Change::Queue { place, .. } => self.reserve_target(*place, count),
             Change::Tell { place, .. } => self.reserve_failures(*place, count),
             Change::Delay { .. } => self.timers.reserve(count),
             Change::Fire { place, .. } => self.reserve_queue(*place, count),

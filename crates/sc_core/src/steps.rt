@@ -12,6 +12,7 @@ use crate::body::Body;
 use crate::change::Change;
 use crate::cues::name_of;
 use crate::draft::Draft;
+use crate::newborns::with_rooms;
 use crate::prepared::Prepared;
 use sc_base::{NoMemory, Queue, Sequence};
 use sc_law::Turned;
@@ -96,10 +97,12 @@ impl<P: Drop> Body<P> {
         ensures none { IfOk result (λ p. InstallNone p.changes) }
     {
         let (after, effects, logs) = turned.into_parts();
-        let draft = self.draft_effects(alloc, place, &after, effects)?;
+        let mut draft = self.draft_effects(alloc, place, &after, effects)?;
+        self.draft_end(alloc, &mut draft, place, &after)?;
         let mut changes = put_changes(alloc, place, cue, after)?;
-        append(&mut changes, draft.changes)?;
-        changes.push(Change::End { place })?;
+        let count = draft.changes.len().checked_add(3).ok_or(NoMemory)?;
+        let more = with_rooms(alloc, draft.changes, self.sessions.len(), count)?;
+        append(&mut changes, more)?;
         changes.push(Change::Count)?;
         Ok(Prepared {
             changes,

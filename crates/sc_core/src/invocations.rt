@@ -1,0 +1,158 @@
+use crate::aims::birth_place;
+use crate::body::Body;
+use crate::change::Change;
+use crate::draft::{Birth, Draft};
+use crate::failures::unborn_event;
+use crate::session::{Session, is_running};
+use crate::starts::fresh_state;
+use sc_base::{NoMemory, Plain, SmallBytes, Word};
+use sc_rooms::RoomyQueue;
+use sc_types::{
+    Delivery, Event, INVOKE_DEPTH_LIMIT, InvokerImage, PairList, SessionState,
+};
+use std::alloc::Global;
+
+/// A session to be started: the id of the invocation, the session's name, its chart's, and what it is started with.
+/// SCXML 6.4.
+#[derive(Debug, Drop)]
+pub(crate) struct Invocation {
+    pub(crate) invokeid: SmallBytes,
+    pub(crate) child: Word,
+    pub(crate) chart: Word,
+    pub(crate) pairs: PairList,
+}
+
+/// The session that an invocation starts.
+fn child_session(
+    alloc: Global,
+    invoker: &Word,
+    depth: u32,
+    invocation: Invocation,
+) -> Result<Session, NoMemory> {
+    let link = InvokerImage {
+        session: invoker.copy()?,
+        invokeid: invocation.invokeid,
+        cut: false,
+    };
+    Ok(Session {
+        state: fresh_state(alloc, &invocation.child, &invocation.chart, invocation.pairs)?,
+        failures: RoomyQueue::new(alloc),
+        queued: RoomyQueue::new(alloc),
+        flagged: false,
+        invoker: Some(link),
+        depth,
+        children: RoomyQueue::new(alloc),
+    })
+}
+
+impl<P: Drop> Body<P> {
+    /// The depth of the session at a place.
+    fn depth_at(&self, place: usize) -> u32 {
+        match self.sessions.get(place) {
+            Some(session) => session.depth,
+            None => unreachable!(),
+        }
+    }
+
+    /// Prepares that a session is born. One whose name is taken is answered as being out of memory: the children of a
+    /// session are counted, so that no two have one name.
+    fn draft_birth(
+        &self,
+        alloc: Global,
+        draft: &mut Draft<P>,
+        place: usize,
+        after: &SessionState,
+        invocation: Invocation,
+    ) -> Result<Delivery, NoMemory> {
+        let child = invocation.child.copy()?;
+        if self.session_place(&child).is_some() || birth_place(draft.births.slice(), &child).is_some() {
+            return Err(NoMemory);
+        }
+        let at = self.sessions.len().checked_add(draft.births.len()).ok_or(NoMemory)?;
+        let session = child_session(alloc, &after.session, self.depth_at(place) + 1, invocation)?;
+        draft.changes.push(Change::Bear {
+            invoker: place,
+            name: child.copy()?,
+            session,
+        })?;
+        draft.births.push(Birth {
+            name: child.copy()?,
+            place: at,
+        })?;
+        Ok(Delivery::Born(child))
+    }
+
+    /// Prepares that nothing is started, of which the session at a place hears while it runs.
+    fn draft_unborn(
+        &self,
+        alloc: Global,
+        draft: &mut Draft<P>,
+        place: usize,
+        after: &SessionState,
+        invokeid: SmallBytes,
+        child: Word,
+    ) -> Result<Delivery, NoMemory> {
+        draft.changes.push(Change::DropInvoke { place, child })?;
+        if is_running(&after.phase) {
+            let event = unborn_event(alloc, invokeid)?;
+            draft.changes.push(Change::Tell { place, event })?;
+        }
+        Ok(Delivery::Unborn)
+    }
+
+    /// Prepares that the session at a place invokes another. SCXML 6.4.
+    pub(crate) fn draft_invoke(
+        &self,
+        alloc: Global,
+        draft: &mut Draft<P>,
+        place: usize,
+        after: &SessionState,
+        invocation: Invocation,
+    ) -> Result<Delivery, NoMemory> {
+        if !self.has_chart(&invocation.chart) || self.depth_at(place) >= INVOKE_DEPTH_LIMIT {
+            return self.draft_unborn(
+                alloc,
+                draft,
+                place,
+                after,
+                invocation.invokeid,
+                invocation.child,
+            );
+        }
+        self.draft_birth(alloc, draft, place, after, invocation)
+    }
+
+    /// Prepares that a child is cancelled, while it lives. A session that cancels itself is answered as being out of
+    /// memory: none is its own child. SCXML 6.4.3.
+    pub(crate) fn draft_cancel_child(
+        &self,
+        draft: &mut Draft<P>,
+        place: usize,
+        after: &SessionState,
+        child: Word,
+    ) -> Result<Delivery, NoMemory> {
+        let Some(found) = self.live_place(draft.births.slice(), place, after, &child) else {
+            return Ok(Delivery::Nothing);
+        };
+        if found == place {
+            return Err(NoMemory);
+        }
+        draft.changes.push(Change::CutOff { place: found })?;
+        Ok(Delivery::Flagged(child))
+    }
+
+    /// Prepares that an event joins the external queue of the session of a name, while that lives.
+    pub(crate) fn draft_forward(
+        &self,
+        draft: &mut Draft<P>,
+        place: usize,
+        after: &SessionState,
+        child: Word,
+        event: Event,
+    ) -> Result<Delivery, NoMemory> {
+        match self.live_place(draft.births.slice(), place, after, &child) {
+            Some(found) => self.draft_queue(draft, found, child, event),
+            None => Ok(Delivery::Dropped),
+        }
+    }
+}
