@@ -45,11 +45,15 @@ left_children g name = map (λ (s : SessionImage). Flagged s.state.session) (fil
 abbrev pub done_invoke : List ℕ → Event
 done_invoke id = record (platform_event (codes "done.invoke." ++ id) [] Absent) { kind = External; invokeid = id }
 
+-- an invoked session ran away (this host's own rule)
+abbrev pub runaway_event : List ℕ → Event
+runaway_event id = record (platform_event (codes "error.platform.runaway") [] Absent) { invokeid = id }
+
 -- what the invoker hears; of a session that was cancelled nothing
 abbrev pub end_event : List ℕ → How → Option Event
 end_event id (how.Final payload) = Some (record (done_invoke id) { payload = payload })
 end_event id how.Cancelled = None
-end_event id how.Runaway = Some (record (platform_event (codes "error.platform.runaway") [] Absent) { invokeid = id })
+end_event id how.Runaway = Some (runaway_event id)
 
 -- it reaches the invoker while that lives, unless the two are cut off
 abbrev pub tell_invoker : HostImage → InvokerImage → Event → Delivered

@@ -1,4 +1,5 @@
 pub mod Aims
+pub mod Births
 pub mod Bodies
 pub mod Changes
 pub mod Commands
@@ -11,6 +12,8 @@ pub mod FittingHosts
 pub mod Histories
 pub mod Hosts
 pub mod Installing
+pub mod Newborns
+pub mod Parting
 pub mod Preparing
 pub mod Stepping
 pub mod Ticking

@@ -10,7 +10,7 @@ ghost use Rattle.sc_types.specs.declared.host.HostImage.{HostImage};
 ghost use Rattle.sc_types.specs.declared.host.SessionImage.{SessionImage};
 
 use crate::body::Body;
-use crate::draft::Birth;
+use crate::draft::Placed;
 use crate::session::{Session, is_live};
 use sc_base::{NoMemory, Plain, SharedBytes, Word};
 use sc_types::{InvokerImage, Phase, SessionState, To};
@@ -27,7 +27,7 @@ pub(crate) enum Aim {
 }
 
 /// The name of the receiver, where there is one.
-fn receiver_name<'a>(
+pub(crate) fn receiver_name<'a>(
     own: &'a Word,
     invoker: &'a Option<InvokerImage>,
     who: &'a To,
@@ -48,7 +48,7 @@ fn receiver_name<'a>(
 }
 
 /// Whether the session of this name is cut off from the one that it invoked.
-fn is_cut_from(invoker: &Option<InvokerImage>, name: &Word) -> bool
+pub(crate) fn is_cut_from(invoker: &Option<InvokerImage>, name: &Word) -> bool
     ensures { (s : SessionImage) → s.invoker ≡ invoker.now → result ≡ is_cut_from s name.now }
 {
     match invoker {
@@ -85,7 +85,7 @@ fn takes_events(found: usize, session: &Session, place: usize, phase: &Phase) ->
 }
 
 /// The place of a session that is born in the step under way.
-pub(crate) fn birth_place(births: &[Birth], name: &Word) -> Option<usize>
+pub(crate) fn birth_place(births: &[Placed], name: &Word) -> Option<usize>
     ensures { result ≡ birth_place births.now name.now }
 {
     for birth in births {
@@ -101,7 +101,7 @@ impl<P: Drop> Body<P> {
     /// are born.
     pub(crate) fn live_place(
         &self,
-        births: &[Birth],
+        births: &[Placed],
         place: usize,
         state: &SessionState,
         name: &Word,
@@ -122,7 +122,7 @@ impl<P: Drop> Body<P> {
     }
 
     /// Where an event goes that is sent to the session of a name.
-    fn aim_at(&self, births: &[Birth], place: usize, state: &SessionState, name: &Word) -> Aim
+    fn aim_at(&self, births: &[Placed], place: usize, state: &SessionState, name: &Word) -> Aim
         requires agrees { Agrees self.now }
         requires there { option_map (λ (s : SessionImage). s.state.session) (slice_get (image self.now).sessions place)
             ≡ Some state.now.session }
@@ -138,7 +138,7 @@ impl<P: Drop> Body<P> {
     /// Where an event goes that the session at a place sends, once its state is this one, and these are born.
     pub(crate) fn aim(
         &self,
-        births: &[Birth],
+        births: &[Placed],
         place: usize,
         state: &SessionState,
         invoker: &Option<InvokerImage>,

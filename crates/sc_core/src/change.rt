@@ -1,6 +1,6 @@
 ghost use Rattle.std.specs.Prelude.{◌≡◌, ◌≤◌, length};
 ghost use Rattle.sc_core.specs.Bodies.{Agrees, Makes, image};
-ghost use Rattle.sc_core.specs.Installing.{CanApply, CanApplyAll, HasRoom, HaveRoom, apply, charts_after, charts_with, installed};
+ghost use Rattle.sc_core.specs.Installing.{CanApply, CanApplyAll, HasRoom, HaveRoom, IsNewest, apply, charts_after, charts_with, installed, queue_rooms};
 
 use crate::body::{Body, InstalledChart};
 use crate::session::Session;
@@ -93,8 +93,9 @@ impl<P: Drop> Body<P> {
         requires agrees { Agrees self.old }
         requires can { CanApply (image self.old) change }
         requires ready { 1 ≤ self.old.ready.spare }
-        requires room { HasRoom 1 self.old change }
+        requires room { HasRoom 1 self.old (queue_rooms self.old) change }
         ensures makes { Makes (apply change (image self.old)) self.old self.new }
+        ensures newest { IsNewest self.old self.new change }
         ensures charts { self.new.charts.items ≡ charts_with change self.old.charts.items }
     {
         match change {

@@ -5,9 +5,9 @@ use sc_base::{Queue, Sequence, Word};
 use sc_types::Delivery;
 use std::alloc::Global;
 
-/// A session that is born in the step under way.
+/// A session by its name and its place.
 #[derive(Debug, Drop)]
-pub struct Birth {
+pub struct Placed {
     pub(crate) name: Word,
     pub(crate) place: usize,
 }
@@ -18,7 +18,7 @@ pub struct Draft<P> {
     pub(crate) changes: Queue<Change<P>>,
     pub(crate) sent: Sequence<Delivery>,
     /// The sessions that are born by then, in order.
-    pub(crate) births: Sequence<Birth>,
+    pub(crate) births: Sequence<Placed>,
     /// How many events have numbers by then.
     pub(crate) events: u128,
     /// How many sends are delayed by then.

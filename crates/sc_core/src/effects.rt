@@ -1,21 +1,20 @@
-ghost use Rattle.std.specs.Prelude.{◌≡◌, ◌+◌, ◌-◌, ◌^◌, ◌<◌, ◌≤◌, ◌&&◌, nat_lt, Some, IfOk, IfSome, OnOk, count_by, length, option_map, slice_get};
-ghost use Rattle.sc_core.specs.Aims.{carried};
+ghost use Rattle.std.specs.Prelude.{ℕ, ◌≡◌, ◌++◌, [], ◌∷◌, ◌+◌, ◌-◌, ◌^◌, ◌<◌, ◌≤◌, ◌&&◌, nat_lt, Some, IfOk, IfSome, OnOk, count_by, length, option_map, slice_get};
 ghost use Rattle.sc_core.specs.Bodies.{Agrees, image, session_image};
 ghost use Rattle.sc_core.specs.Counting.{count_after};
-ghost use Rattle.sc_core.specs.Deliveries.{delay_send, deliver, deliver_of, send_now, undo, unreachable};
-ghost use Rattle.sc_core.specs.Drafts.{Drafts, IsDraft, IsSender, Notes, so_far};
+ghost use Rattle.sc_core.specs.Deliveries.{delay_send, deliver, deliver_of, send_named, send_now, undo, unreachable};
+ghost use Rattle.sc_core.specs.Drafts.{Drafts, IsDraft, IsSender, Notes, so_far, stepper};
 ghost use Rattle.sc_core.specs.Hosts.{is_live};
-ghost use Rattle.sc_core.specs.declared.aims.Aim.TheVariants as aim;
+ghost use Rattle.sc_core.specs.declared.change.Change.TheVariants as change;
 ghost use Rattle.sc_types.specs.Sends.{is_send};
 ghost use Rattle.sc_types.specs.declared.event.Event.{Event};
 ghost use Rattle.sc_types.specs.declared.host.HostImage.{HostImage};
 ghost use Rattle.sc_types.specs.declared.host.SessionImage.{SessionImage};
 
 use crate::additions::with_invokeid;
-use crate::aims::{Aim, invokeid_for};
+use crate::aims::{invokeid_for, is_cut_from, receiver_name};
 use crate::body::Body;
 use crate::change::Change;
-use crate::draft::{Birth, Draft};
+use crate::draft::Draft;
 use crate::failures::communication_error;
 use crate::invocations::Invocation;
 use crate::session::{is_live, is_running};
@@ -59,17 +58,6 @@ fn count_after<P>(
     }
 }
 
-/// The name of the session at a place that is born in the step under way.
-fn birth_name(births: &[Birth], place: usize) -> Option<&Word>
-{
-    for birth in births {
-        if birth.place == place {
-            return Some(&birth.name);
-        }
-    }
-    None
-}
-
 impl<P: Drop> Body<P> {
     /// The invoker of the session at a place.
     pub(crate) fn invoker_at(&self, place: usize) -> &Option<InvokerImage>
@@ -93,7 +81,7 @@ impl<P: Drop> Body<P> {
     ) -> Result<Delivery, NoMemory>
         ensures told { IfOk result (λ told. (g : HostImage) (t : SessionImage) (e : Event)
             → IsSender (image self.now) place after.now g draft.old t → e.sendid ≡ sendid.now
-            → Drafts after.now.session g draft.old draft.new (unreachable (so_far g draft.old) place t e) told) }
+            → Drafts (stepper after.now.session place) g draft.old draft.new (unreachable (so_far g draft.old) place t e) told) }
         ensures number { OnOk result (draft.new.events ≤ draft.old.events + 1) }
     {
         if !is_running(&after.phase) {
@@ -104,15 +92,6 @@ impl<P: Drop> Body<P> {
         Ok(Delivery::Unreachable)
     }
 
-    /// The name of the session at a place, where these are born.
-    pub(crate) fn name_of<'a>(&'a self, births: &'a [Birth], place: usize) -> Option<&'a Word>
-    {
-        match self.sessions.get(place) {
-            Some(session) => Some(&session.state.session),
-            None => birth_name(births, place),
-        }
-    }
-
     /// Prepares that an event joins the external queue of the session at a place.
     pub(crate) fn draft_queue(
         &self,
@@ -121,6 +100,12 @@ impl<P: Drop> Body<P> {
         session: Word,
         event: Event,
     ) -> Result<Delivery, NoMemory>
+        requires number { draft.old.events + 1 < 2 ^ 128 }
+        ensures draft { OnOk result (draft.new ≡ record draft.old {
+            changes = draft.old.changes ++ change.Queue place event ∷ [];
+            events = draft.old.events + 1;
+        }) }
+        ensures told { IfOk result (λ told. told ≡ Delivery.Queued (draft.old.events + 1) session) }
     {
         let number = draft.events + 1;
         draft.changes.push(Change::Queue { place, event })?;
@@ -128,21 +113,36 @@ impl<P: Drop> Body<P> {
         Ok(Delivery::Queued { number, session })
     }
 
-    /// Prepares that an event of the session at a place reaches another.
-    fn draft_reach(
+    /// Prepares that the session at a place sends an event to the session of a name.
+    fn draft_named(
         &self,
+        alloc: Global,
         draft: &mut Draft<P>,
-        sender: usize,
-        receiver: usize,
+        place: usize,
+        after: &SessionState,
+        name: &Word,
         event: Event,
     ) -> Result<Delivery, NoMemory>
+        requires agrees { Agrees self.now }
+        requires within { place < length self.now.sessions.items }
+        requires there { option_map (λ (s : SessionImage). s.state.session) (slice_get (image self.now).sessions place)
+            ≡ Some after.now.session }
+        requires number { draft.old.events + 1 < 2 ^ 128 }
+        ensures told { IfOk result (λ told. (g : HostImage) (t : SessionImage)
+            → IsSender (image self.now) place after.now g draft.old t
+            → Drafts (stepper after.now.session place) g draft.old draft.new
+            (send_named (so_far g draft.old) place t event (Some name.now)) told) }
+        ensures number { OnOk result (draft.new.events ≤ draft.old.events + 1) }
     {
-        let Some(name) = self.name_of(draft.births.slice(), receiver) else {
-            unreachable!();
+        let invoker = self.invoker_at(place);
+        if is_cut_from(invoker, name) {
+            return Ok(Delivery::Dropped);
+        }
+        let Some(receiver) = self.live_place(draft.births.slice(), place, after, name) else {
+            return self.draft_failure(alloc, draft, place, after, &event.sendid);
         };
-        let name = name.copy()?;
-        let invokeid = invokeid_for(self.invoker_at(sender), &name)?;
-        self.draft_queue(draft, receiver, name, with_invokeid(event, invokeid))
+        let invokeid = invokeid_for(invoker, name)?;
+        self.draft_queue(draft, receiver, name.copy()?, with_invokeid(event, invokeid))
     }
 
     /// Prepares that the session at a place sends an event.
@@ -162,13 +162,13 @@ impl<P: Drop> Body<P> {
         requires number { draft.old.events + 1 < 2 ^ 128 }
         ensures told { IfOk result (λ told. (g : HostImage) (t : SessionImage)
             → IsSender (image self.now) place after.now g draft.old t
-            → Drafts after.now.session g draft.old draft.new (send_now (so_far g draft.old) place t to.now event) told) }
+            → Drafts (stepper after.now.session place) g draft.old draft.new
+            (send_now (so_far g draft.old) place t to.now event) told) }
         ensures number { OnOk result (draft.new.events ≤ draft.old.events + 1) }
     {
-        match self.aim(draft.births.slice(), place, after, self.invoker_at(place), to) {
-            Aim::Reaches(receiver) => self.draft_reach(draft, place, receiver, event),
-            Aim::Fails => self.draft_failure(alloc, draft, place, after, &event.sendid),
-            Aim::Drops => Ok(Delivery::Dropped),
+        match receiver_name(&after.session, self.invoker_at(place), to) {
+            Some(name) => self.draft_named(alloc, draft, place, after, name, event),
+            None => self.draft_failure(alloc, draft, place, after, &event.sendid),
         }
     }
 
@@ -184,7 +184,7 @@ impl<P: Drop> Body<P> {
     ) -> Result<Delivery, NoMemory>
         ensures told { IfOk result (λ told. (g : HostImage) (t : SessionImage)
             → IsSender (image self.now) place after.now g draft.old t
-            → Drafts after.now.session g draft.old draft.new (delay_send (so_far g draft.old) t to event delay) told) }
+            → Drafts (stepper after.now.session place) g draft.old draft.new (delay_send (so_far g draft.old) t to event delay) told) }
         ensures number { OnOk result (draft.new.events ≤ draft.old.events + 1) }
     {
         if !may_delay(&after.phase, draft.delayed) {
@@ -206,8 +206,8 @@ impl<P: Drop> Body<P> {
 
     /// How many sends of a session have an id after the changes so far.
     fn pending(&self, draft: &Draft<P>, session: &Word, id: &SharedBytes) -> Result<u64, NoMemory>
-        ensures { IfOk result (λ n. (g : HostImage) → g.timers ≡ self.now.timers.sends → IsDraft session.now g draft.now
-            → n ≡ count_by (is_send session.now id.now) (so_far g draft.now).timers) }
+        ensures { IfOk result (λ n. (g : HostImage) (place : ℕ) → g.timers ≡ self.now.timers.sends
+            → IsDraft (stepper session.now place) g draft.now → n ≡ count_by (is_send session.now id.now) (so_far g draft.now).timers) }
     {
         let mut count = self.timers.count(session.bytes(), id.slice());
         let mut place = 0;
@@ -230,7 +230,7 @@ impl<P: Drop> Body<P> {
     ) -> Result<Delivery, NoMemory>
         ensures told { IfOk result (λ told. (g : HostImage) (t : SessionImage)
             → IsSender (image self.now) place after.now g draft.old t
-            → Drafts after.now.session g draft.old draft.new (undo (so_far g draft.old) t sendid) told) }
+            → Drafts (stepper after.now.session place) g draft.old draft.new (undo (so_far g draft.old) t sendid) told) }
         ensures number { OnOk result (draft.new.events ≤ draft.old.events + 1) }
     {
         if sendid.slice().is_empty() {
@@ -260,7 +260,7 @@ impl<P: Drop> Body<P> {
         requires number { draft.old.events + 1 < 2 ^ 128 }
         ensures told { IfOk result (λ told. (g : HostImage) (t : SessionImage)
             → IsSender (image self.now) place after.now g draft.old t
-            → Drafts after.now.session g draft.old draft.new (deliver_of (so_far g draft.old) place t effect) told) }
+            → Drafts (stepper after.now.session place) g draft.old draft.new (deliver_of (so_far g draft.old) place t effect) told) }
         ensures number { OnOk result (draft.new.events ≤ draft.old.events + 1) }
     {
         match effect {
@@ -310,7 +310,7 @@ impl<P: Drop> Body<P> {
         requires number { draft.old.events + 1 < 2 ^ 128 }
         ensures notes { OnOk result ((g : HostImage) (t : SessionImage)
             → IsSender (image self.now) place after.now g draft.old t
-            → Notes after.now.session g draft.old draft.new (deliver (so_far g draft.old) place effect)) }
+            → Notes (stepper after.now.session place) g draft.old draft.new (deliver (so_far g draft.old) place effect)) }
         ensures number { OnOk result (draft.new.events ≤ draft.old.events + 1) }
     {
         let what = self.draft_delivery(alloc, draft, place, after, effect)?;

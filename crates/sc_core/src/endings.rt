@@ -1,14 +1,28 @@
+ghost use Rattle.std.specs.Prelude.{◌≡◌, ◌==◌, ◌+◌, ◌^◌, ◌<◌, ◌≤◌, ◌++◌, ◌∷◌, [], Some, IfOk, OnOk, length, option_map, slice_get};
+ghost use Rattle.sc_core.specs.Births.{IsGrown};
+ghost use Rattle.sc_core.specs.Bodies.{Agrees, image};
+ghost use Rattle.sc_core.specs.Changes.{put_state};
+ghost use Rattle.sc_core.specs.Drafts.{IsSender, so_far};
+ghost use Rattle.sc_core.specs.Endings.{end_at, end_event, tell_end, tell_invoker};
+ghost use Rattle.sc_core.specs.Parting.{Adds, cut_changes, cut_told, cuts, is_cut, is_cut_in, is_left, new_left, old_left};
+ghost use Rattle.sc_core.specs.declared.session.Session.{Session};
+ghost use Rattle.sc_types.specs.declared.host.HostImage.{HostImage};
+ghost use Rattle.sc_types.specs.declared.host.SessionImage.{SessionImage};
+
 use crate::body::Body;
 use crate::change::Change;
-use crate::draft::Draft;
+use crate::draft::{Draft, Placed};
 use crate::failures::{done_invoke, runaway_event};
-use crate::session::is_live;
-use sc_base::{NoMemory, Plain, Queue, Sequence, SmallBytes};
+use crate::session::{Session, is_live};
+use sc_base::{NoMemory, Plain, Queue, Sequence, SharedBytes};
+use sc_rooms::RoomyQueue;
 use sc_types::{Delivery, Event, How, InvokerImage, Phase, SessionState};
 use std::alloc::Global;
 
 /// Whether a session was cut off from its invoker by one of the changes.
-fn is_cut_in<P>(changes: &Queue<Change<P>>, place: usize) -> bool {
+fn is_cut_in<P>(changes: &Queue<Change<P>>, place: usize) -> bool
+    ensures { result ≡ is_cut_in changes.now place }
+{
     // A length fits a usize, so the number cannot run out.
     let _end = changes.len();
     let mut number = 0;
@@ -21,14 +35,18 @@ fn is_cut_in<P>(changes: &Queue<Change<P>>, place: usize) -> bool {
     false
 }
 
-fn cuts<P>(change: &Change<P>, session: usize) -> bool {
+fn cuts<P>(change: &Change<P>, session: usize) -> bool
+    ensures { result ≡ cuts session change.now }
+{
     match change {
         Change::CutOff { place } => *place == session,
         _ => false,
     }
 }
 
-fn is_cut(invoker: &Option<InvokerImage>) -> bool {
+fn is_cut(invoker: &Option<InvokerImage>) -> bool
+    ensures { result ≡ is_cut invoker.now }
+{
     match invoker {
         Some(invoker) => invoker.cut,
         None => false,
@@ -36,7 +54,9 @@ fn is_cut(invoker: &Option<InvokerImage>) -> bool {
 }
 
 /// What the invoker of a session hears of its end. SCXML 6.4.
-fn end_event(alloc: Global, invokeid: &SmallBytes, how: &How) -> Result<Option<Event>, NoMemory> {
+fn end_event(alloc: Global, invokeid: &SharedBytes, how: &How) -> Result<Option<Event>, NoMemory>
+    ensures { IfOk result (λ e. e ≡ end_event invokeid.now how.now) }
+{
     match how {
         How::Final(payload) => Ok(Some(done_invoke(alloc, invokeid, payload)?)),
         How::Cancelled => Ok(None),
@@ -44,55 +64,86 @@ fn end_event(alloc: Global, invokeid: &SmallBytes, how: &How) -> Result<Option<E
     }
 }
 
-impl<P: Drop> Body<P> {
-    /// Whether the child at a place lives, once the session at another has ended, and is bound to its invoker by the
-    /// host so far.
-    fn is_left(&self, changes: &Queue<Change<P>>, place: usize, child: usize) -> bool {
-        match self.sessions.get(child) {
-            Some(session) => {
-                child != place
-                    && is_live(&session.state.phase)
-                    && !is_cut(&session.invoker)
-                    && !is_cut_in(changes, child)
-            }
-            None => !is_cut_in(changes, child),
+/// Whether the child at a place lives once the session at another has ended, and the changes leave it bound.
+fn is_left<P>(changes: &Queue<Change<P>>, place: usize, child: usize, session: &Session) -> bool
+    ensures { result ≡ is_left changes.now place child session.now }
+{
+    child != place
+        && is_live(&session.state.phase)
+        && !is_cut(&session.invoker)
+        && !is_cut_in(changes, child)
+}
+
+/// Adds the sessions that are born and that the changes leave bound.
+fn add_births<P>(
+    left: &mut Sequence<Placed>,
+    changes: &Queue<Change<P>>,
+    births: &[Placed],
+) -> Result<(), NoMemory>
+    ensures { OnOk result (left.new ≡ left.old ++ new_left changes.now births.now) }
+{
+    for birth in births {
+        if !is_cut_in(changes, birth.place) {
+            left.push(Placed {
+                name: birth.name.copy()?,
+                place: birth.place,
+            })?;
         }
     }
+    Ok(())
+}
 
-    /// The places of the children that the session at a place leaves behind as it ends, in order of start.
-    fn left_children(
+/// Prepares that these children are cancelled.
+fn draft_left<P: Drop>(draft: &mut Draft<P>, children: Sequence<Placed>) -> Result<(), NoMemory>
+    ensures { OnOk result (draft.new ≡ record draft.old {
+        changes = draft.old.changes ++ cut_changes children;
+        sent = draft.old.sent ++ cut_told children;
+    }) }
+{
+    for child in children.into_vec() {
+        draft.changes.push(Change::CutOff { place: child.place })?;
+        draft.sent.push(Delivery::Flagged(child.name))?;
+    }
+    Ok(())
+}
+
+impl<P: Drop> Body<P> {
+    /// The children of the session at a place that the host has and that its end leaves behind, in order of start.
+    fn old_children(
         &self,
         alloc: Global,
-        draft: &Draft<P>,
+        changes: &Queue<Change<P>>,
         place: usize,
-    ) -> Result<Sequence<usize>, NoMemory> {
+    ) -> Result<Sequence<Placed>, NoMemory>
+        requires agrees { Agrees self.now }
+        requires within { place < length self.now.sessions.items }
+        ensures { IfOk result (λ left. (s : Session) → slice_get self.now.sessions.items place ≡ Some s
+            → left ≡ old_left self.now.sessions.items changes.now place s.children.items) }
+    {
         let mut left = Sequence::new(alloc);
-        let Some(session) = self.sessions.get(place) else {
-            unreachable!();
-        };
-        for child in session.children.iter() {
-            if self.is_left(&draft.changes, place, *child) {
-                left.push(*child)?;
-            }
-        }
-        for birth in draft.births.slice() {
-            if self.is_left(&draft.changes, place, birth.place) {
-                left.push(birth.place)?;
+        for child in self.children_at(place).iter() {
+            let Some(session) = self.sessions.get(*child) else {
+                unreachable!();
+            };
+            if is_left(changes, place, *child, session) {
+                left.push(Placed {
+                    name: session.state.session.copy()?,
+                    place: *child,
+                })?;
             }
         }
         Ok(left)
     }
 
-    /// Prepares that the children at these places are cancelled.
-    fn draft_left(&self, draft: &mut Draft<P>, children: Sequence<usize>) -> Result<(), NoMemory> {
-        for child in children.into_vec() {
-            let Some(name) = self.name_of(draft.births.slice(), child) else {
-                unreachable!();
-            };
-            draft.sent.push(Delivery::Flagged(name.copy()?))?;
-            draft.changes.push(Change::CutOff { place: child })?;
+    /// The places of the children of the session at a place.
+    fn children_at(&self, place: usize) -> &RoomyQueue<usize>
+        requires within { place < length self.now.sessions.items }
+        ensures { option_map (λ (s : Session). s.children) (slice_get self.now.sessions.items place) ≡ Some result.now }
+    {
+        match self.sessions.get(place) {
+            Some(session) => &session.children,
+            None => unreachable!(),
         }
-        Ok(())
     }
 
     /// Prepares that the invoker hears of the end of the session at a place.
@@ -103,11 +154,24 @@ impl<P: Drop> Body<P> {
         after: &SessionState,
         invoker: &InvokerImage,
         event: Event,
-    ) -> Result<Delivery, NoMemory> {
+    ) -> Result<Delivery, NoMemory>
+        requires agrees { Agrees self.now }
+        requires there { option_map (λ (s : SessionImage). s.state.session) (slice_get (image self.now).sessions place)
+            ≡ Some after.now.session }
+        requires number { draft.old.events + 1 < 2 ^ 128 }
+        ensures adds { IfOk result (λ told. (h : HostImage) → draft.old.events ≡ h.events
+            → IsGrown (put_state (image self.now) place after.now) draft.old.births h
+            → Adds h draft.old.changes draft.new.changes (tell_invoker h invoker.now event).host
+            × (told ≡ (tell_invoker h invoker.now event).what)) }
+        ensures sent { OnOk result (draft.new.sent ≡ draft.old.sent) }
+    {
         if invoker.cut {
             return Ok(Delivery::Dropped);
         }
-        self.draft_forward(draft, place, after, invoker.session.copy()?, event)
+        match self.live_place(draft.births.slice(), place, after, &invoker.session) {
+            Some(found) => self.draft_queue(draft, found, invoker.session.copy()?, event),
+            None => Ok(Delivery::Dropped),
+        }
     }
 
     /// Prepares that the invoker of the session at a place hears how it ended.
@@ -118,7 +182,17 @@ impl<P: Drop> Body<P> {
         place: usize,
         after: &SessionState,
         how: &How,
-    ) -> Result<(), NoMemory> {
+    ) -> Result<(), NoMemory>
+        requires agrees { Agrees self.now }
+        requires within { place < length self.now.sessions.items }
+        requires there { option_map (λ (s : SessionImage). s.state.session) (slice_get (image self.now).sessions place)
+            ≡ Some after.now.session }
+        requires number { draft.old.events + 1 < 2 ^ 128 }
+        ensures { OnOk result ((h : HostImage) (s : SessionImage) → slice_get (image self.now).sessions place ≡ Some s
+            → draft.old.events ≡ h.events → IsGrown (put_state (image self.now) place after.now) draft.old.births h
+            → Adds h draft.old.changes draft.new.changes (tell_end h s.invoker how.now).host
+            × (draft.new.sent ≡ draft.old.sent ++ (tell_end h s.invoker how.now).sent)) }
+    {
         let Some(invoker) = self.invoker_at(place) else {
             return Ok(());
         };
@@ -137,13 +211,23 @@ impl<P: Drop> Body<P> {
         draft: &mut Draft<P>,
         place: usize,
         after: &SessionState,
-    ) -> Result<(), NoMemory> {
+    ) -> Result<(), NoMemory>
+        requires agrees { Agrees self.now }
+        requires within { place < length self.now.sessions.items }
+        requires there { option_map (λ (s : SessionImage). s.state.session) (slice_get (image self.now).sessions place)
+            ≡ Some after.now.session }
+        requires number { draft.old.events + 1 < 2 ^ 128 }
+        ensures { OnOk result ((g : HostImage) (t : SessionImage) → IsSender (image self.now) place after.now g draft.old t
+            → Adds (so_far g draft.old) draft.old.changes draft.new.changes (end_at (so_far g draft.old) place).host
+            × (draft.new.sent ≡ draft.old.sent ++ (end_at (so_far g draft.old) place).sent)) }
+    {
         let Phase::Ended(how) = &after.phase else {
             return Ok(());
         };
-        let left = self.left_children(alloc, draft, place)?;
+        let mut left = self.old_children(alloc, &draft.changes, place)?;
+        add_births(&mut left, &draft.changes, draft.births.slice())?;
         draft.changes.push(Change::End { place })?;
-        self.draft_left(draft, left)?;
+        draft_left(draft, left)?;
         self.tell_invoker(alloc, draft, place, after, how)
     }
 }

@@ -1,4 +1,6 @@
-ghost use Rattle.std.specs.Prelude.{◌≡◌, IfOk, codes};
+ghost use Rattle.std.specs.Prelude.{◌≡◌, ◌++◌, IfOk, codes};
+ghost use Rattle.sc_core.specs.Deliveries.{unborn_event};
+ghost use Rattle.sc_core.specs.Endings.{done_invoke, runaway_event};
 ghost use Rattle.sc_core.specs.Ticking.{failure_of};
 
 use sc_base::{Name, NoMemory, Plain, SharedBytes, TextWriter};

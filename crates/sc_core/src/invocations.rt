@@ -1,11 +1,20 @@
+ghost use Rattle.std.specs.Prelude.{◌≡◌, ◌+◌, ◌^◌, ◌<◌, ◌≤◌, [], Some, IfOk, OnOk, length, option_map, slice_get};
+ghost use Rattle.sc_core.specs.Bodies.{Agrees, image, session_image};
+ghost use Rattle.sc_core.specs.Deliveries.{born, cancel_child, hand_to, invoke, unborn, while_live};
+ghost use Rattle.sc_core.specs.Drafts.{Drafts, IsSender, so_far, stepper};
+ghost use Rattle.sc_core.specs.Hosts.{session_named};
+ghost use Rattle.sc_law.specs.Runs.{fresh_state};
+ghost use Rattle.sc_types.specs.declared.host.HostImage.{HostImage};
+ghost use Rattle.sc_types.specs.declared.host.SessionImage.{SessionImage};
+
 use crate::aims::birth_place;
 use crate::body::Body;
 use crate::change::Change;
-use crate::draft::{Birth, Draft};
+use crate::draft::{Draft, Placed};
 use crate::failures::unborn_event;
 use crate::session::{Session, is_running};
 use crate::starts::fresh_state;
-use sc_base::{NoMemory, Plain, SmallBytes, Word};
+use sc_base::{NoMemory, Plain, SharedBytes, Word};
 use sc_rooms::RoomyQueue;
 use sc_types::{
     Delivery, Event, INVOKE_DEPTH_LIMIT, InvokerImage, PairList, SessionState,
@@ -16,7 +25,7 @@ use std::alloc::Global;
 /// SCXML 6.4.
 #[derive(Debug, Drop)]
 pub(crate) struct Invocation {
-    pub(crate) invokeid: SmallBytes,
+    pub(crate) invokeid: SharedBytes,
     pub(crate) child: Word,
     pub(crate) chart: Word,
     pub(crate) pairs: PairList,
@@ -28,7 +37,16 @@ fn child_session(
     invoker: &Word,
     depth: u32,
     invocation: Invocation,
-) -> Result<Session, NoMemory> {
+) -> Result<Session, NoMemory>
+    ensures image { IfOk result (λ s. session_image s ≡ record {
+        state = fresh_state invocation.child invocation.chart invocation.pairs;
+        queued = [];
+        flagged = false;
+        invoker = Some (record { session = invoker.now; invokeid = invocation.invokeid; cut = false });
+        depth = depth;
+    }) }
+    ensures children { IfOk result (λ s. s.children.items ≡ []) }
+{
     let link = InvokerImage {
         session: invoker.copy()?,
         invokeid: invocation.invokeid,
@@ -47,7 +65,10 @@ fn child_session(
 
 impl<P: Drop> Body<P> {
     /// The depth of the session at a place.
-    fn depth_at(&self, place: usize) -> u32 {
+    fn depth_at(&self, place: usize) -> u32
+        requires within { place < length self.now.sessions.items }
+        ensures { option_map (λ (s : SessionImage). s.depth) (slice_get (image self.now).sessions place) ≡ Some result }
+    {
         match self.sessions.get(place) {
             Some(session) => session.depth,
             None => unreachable!(),
@@ -62,20 +83,33 @@ impl<P: Drop> Body<P> {
         draft: &mut Draft<P>,
         place: usize,
         after: &SessionState,
+        depth: u32,
         invocation: Invocation,
-    ) -> Result<Delivery, NoMemory> {
+    ) -> Result<Delivery, NoMemory>
+        requires agrees { Agrees self.now }
+        requires within { place < length self.now.sessions.items }
+        requires there { option_map (λ (s : SessionImage). s.state.session) (slice_get (image self.now).sessions place)
+            ≡ Some after.now.session }
+        requires depth { option_map (λ (s : SessionImage). s.depth + 1) (slice_get (image self.now).sessions place) ≡ Some depth }
+        ensures told { IfOk result (λ told. (g : HostImage) (t : SessionImage)
+            → IsSender (image self.now) place after.now g draft.old t
+            → Drafts (stepper after.now.session place) g draft.old draft.new
+            (born (so_far g draft.old) t invocation.invokeid invocation.child invocation.chart
+            invocation.pairs) told) }
+        ensures number { OnOk result (draft.new.events ≤ draft.old.events + 1) }
+    {
         let child = invocation.child.copy()?;
         if self.session_place(&child).is_some() || birth_place(draft.births.slice(), &child).is_some() {
             return Err(NoMemory);
         }
         let at = self.sessions.len().checked_add(draft.births.len()).ok_or(NoMemory)?;
-        let session = child_session(alloc, &after.session, self.depth_at(place) + 1, invocation)?;
+        let session = child_session(alloc, &after.session, depth, invocation)?;
         draft.changes.push(Change::Bear {
             invoker: place,
             name: child.copy()?,
             session,
         })?;
-        draft.births.push(Birth {
+        draft.births.push(Placed {
             name: child.copy()?,
             place: at,
         })?;
@@ -89,9 +123,15 @@ impl<P: Drop> Body<P> {
         draft: &mut Draft<P>,
         place: usize,
         after: &SessionState,
-        invokeid: SmallBytes,
+        invokeid: SharedBytes,
         child: Word,
-    ) -> Result<Delivery, NoMemory> {
+    ) -> Result<Delivery, NoMemory>
+        ensures told { IfOk result (λ told. (g : HostImage) (t : SessionImage)
+            → IsSender (image self.now) place after.now g draft.old t
+            → Drafts (stepper after.now.session place) g draft.old draft.new
+            (unborn (so_far g draft.old) place t invokeid child) told) }
+        ensures number { OnOk result (draft.new.events ≤ draft.old.events + 1) }
+    {
         draft.changes.push(Change::DropInvoke { place, child })?;
         if is_running(&after.phase) {
             let event = unborn_event(alloc, invokeid)?;
@@ -108,8 +148,20 @@ impl<P: Drop> Body<P> {
         place: usize,
         after: &SessionState,
         invocation: Invocation,
-    ) -> Result<Delivery, NoMemory> {
-        if !self.has_chart(&invocation.chart) || self.depth_at(place) >= INVOKE_DEPTH_LIMIT {
+    ) -> Result<Delivery, NoMemory>
+        requires agrees { Agrees self.now }
+        requires within { place < length self.now.sessions.items }
+        requires there { option_map (λ (s : SessionImage). s.state.session) (slice_get (image self.now).sessions place)
+            ≡ Some after.now.session }
+        ensures told { IfOk result (λ told. (g : HostImage) (t : SessionImage)
+            → IsSender (image self.now) place after.now g draft.old t
+            → Drafts (stepper after.now.session place) g draft.old draft.new
+            (invoke (so_far g draft.old) place t invocation.invokeid invocation.child invocation.chart
+            invocation.pairs) told) }
+        ensures number { OnOk result (draft.new.events ≤ draft.old.events + 1) }
+    {
+        let depth = self.depth_at(place);
+        if !self.has_chart(&invocation.chart) || depth >= INVOKE_DEPTH_LIMIT {
             return self.draft_unborn(
                 alloc,
                 draft,
@@ -119,7 +171,7 @@ impl<P: Drop> Body<P> {
                 invocation.child,
             );
         }
-        self.draft_birth(alloc, draft, place, after, invocation)
+        self.draft_birth(alloc, draft, place, after, depth + 1, invocation)
     }
 
     /// Prepares that a child is cancelled, while it lives. A session that cancels itself is answered as being out of
@@ -130,7 +182,16 @@ impl<P: Drop> Body<P> {
         place: usize,
         after: &SessionState,
         child: Word,
-    ) -> Result<Delivery, NoMemory> {
+    ) -> Result<Delivery, NoMemory>
+        requires agrees { Agrees self.now }
+        requires there { option_map (λ (s : SessionImage). s.state.session) (slice_get (image self.now).sessions place)
+            ≡ Some after.now.session }
+        ensures told { IfOk result (λ told. (g : HostImage) (t : SessionImage)
+            → IsSender (image self.now) place after.now g draft.old t
+            → Drafts (stepper after.now.session place) g draft.old draft.new
+            (cancel_child (so_far g draft.old) child (while_live (session_named (so_far g draft.old) child))) told) }
+        ensures number { OnOk result (draft.new.events ≤ draft.old.events + 1) }
+    {
         let Some(found) = self.live_place(draft.births.slice(), place, after, &child) else {
             return Ok(Delivery::Nothing);
         };
@@ -149,7 +210,17 @@ impl<P: Drop> Body<P> {
         after: &SessionState,
         child: Word,
         event: Event,
-    ) -> Result<Delivery, NoMemory> {
+    ) -> Result<Delivery, NoMemory>
+        requires agrees { Agrees self.now }
+        requires there { option_map (λ (s : SessionImage). s.state.session) (slice_get (image self.now).sessions place)
+            ≡ Some after.now.session }
+        requires number { draft.old.events + 1 < 2 ^ 128 }
+        ensures told { IfOk result (λ told. (g : HostImage) (t : SessionImage)
+            → IsSender (image self.now) place after.now g draft.old t
+            → Drafts (stepper after.now.session place) g draft.old draft.new
+            (hand_to (so_far g draft.old) child event (while_live (session_named (so_far g draft.old) child))) told) }
+        ensures number { OnOk result (draft.new.events ≤ draft.old.events + 1) }
+    {
         match self.live_place(draft.births.slice(), place, after, &child) {
             Some(found) => self.draft_queue(draft, found, child, event),
             None => Ok(Delivery::Dropped),

@@ -1,10 +1,19 @@
+ghost use Rattle.std.specs.Prelude.{◌≡◌, ◌≤◌, true, IfOk, length}
+ghost use Rattle.sc_base.specs.Ascending.{contains};
+ghost use Rattle.std.specs.List.{AllByRecursion};
+ghost use Rattle.sc_core.specs.Installing.{CanApplyAll, IsRoomy, new_rooms};
+ghost use Rattle.sc_core.specs.Newborns.{AreAlike, IsRoomier, target, targets_from};
+ghost use Rattle.sc_types.specs.declared.host.HostImage.{HostImage};
+
 use crate::change::Change;
 use crate::session::Session;
 use sc_base::{NoMemory, Queue, Sequence};
 use std::alloc::Global;
 
 /// Where a change puts an event into an external queue.
-fn target<P>(change: &Change<P>) -> Option<usize> {
+fn target<P>(change: &Change<P>) -> Option<usize>
+    ensures { result ≡ target change.now }
+{
     match change {
         Change::Queue { place, .. } => Some(*place),
         _ => None,
@@ -16,7 +25,9 @@ fn targets_from<P>(
     alloc: Global,
     changes: &Queue<Change<P>>,
     first: usize,
-) -> Result<Sequence<usize>, NoMemory> {
+) -> Result<Sequence<usize>, NoMemory>
+    ensures { IfOk result (λ places. places ≡ targets_from first changes.now) }
+{
     let mut places = Sequence::new(alloc);
     let mut number = 0;
     // A length fits a usize, so the number cannot run out.
@@ -38,8 +49,11 @@ fn with_room(
     place: usize,
     targets: &[usize],
     count: usize,
-) -> Result<Session, NoMemory> {
-    if targets.contains(&place) {
+) -> Result<Session, NoMemory>
+    ensures same { IfOk result (IsRoomier session) }
+    ensures room { IfOk result (λ s. contains targets.now place ≡ true → count ≤ s.queued.spare) }
+{
+    if targets.iter().any(|target| *target == place) {
         session.queued.reserve(count)?;
     }
     Ok(session)
@@ -52,7 +66,11 @@ pub(crate) fn with_rooms<P: Drop>(
     mut changes: Queue<Change<P>>,
     first: usize,
     count: usize,
-) -> Result<Queue<Change<P>>, NoMemory> {
+) -> Result<Queue<Change<P>>, NoMemory>
+    ensures alike { IfOk result (AreAlike changes) }
+    ensures roomy { IfOk result (λ roomy. (g : HostImage) → length g.sessions ≡ first → CanApplyAll g changes
+        → AllByRecursion (IsRoomy first count (new_rooms roomy)) roomy) }
+{
     let targets = targets_from(alloc, &changes, first)?;
     let mut roomy = Queue::new(alloc);
     let mut place = first;

@@ -169,7 +169,8 @@ pub(crate) fn fresh_state(
 }
 
 fn fresh_session(alloc: Global, session: &Word, chart: &Word) -> Result<Session, NoMemory>
-    ensures { IfOk result (λ s. session_image s ≡ fresh_session session.now chart.now) }
+    ensures image { IfOk result (λ s. session_image s ≡ fresh_session session.now chart.now) }
+    ensures children { IfOk result (λ s. s.children.items ≡ []) }
 {
     Ok(Session {
         state: fresh_state(alloc, session, chart, Sequence::new(alloc))?,

@@ -2,7 +2,7 @@ ghost use Rattle.std.specs.Prelude.{◌≡◌, ◌+◌, ◌^◌, ◌<◌, ◌≤
 ghost use Rattle.sc_core.specs.Bodies.{Agrees, image};
 ghost use Rattle.sc_core.specs.Commands.{step_turn};
 ghost use Rattle.sc_core.specs.Deliveries.{deliver_all};
-ghost use Rattle.sc_core.specs.Drafts.{AreNumbered, DraftsAll, IsBase};
+ghost use Rattle.sc_core.specs.Drafts.{AreNumbered, DraftsAll, IsBase, stepper};
 ghost use Rattle.sc_core.specs.Preparing.{InstallNone, Prepares};
 ghost use Rattle.sc_core.specs.Stepping.{put_changes};
 ghost use Rattle.sc_types.specs.declared.host.HostImage.{HostImage};
@@ -66,8 +66,9 @@ impl<P: Drop> Body<P> {
         requires there { option_map (λ (s : SessionImage). s.state.session) (slice_get (image self.now).sessions place)
             ≡ Some after.now.session }
         requires events { self.now.events + length effects < 2 ^ 128 }
-        ensures { IfOk result (λ d. (g : HostImage) → IsBase (image self.now) place after.now g
-            → DraftsAll after.now.session g d (deliver_all g place effects)) }
+        ensures all { IfOk result (λ d. (g : HostImage) → IsBase (image self.now) place after.now g
+            → DraftsAll (stepper after.now.session place) g d (deliver_all g place effects)) }
+        ensures number { IfOk result (λ d. d.events ≤ self.now.events + length effects) }
     {
         let mut draft = Draft::new(alloc, self.events, self.delayed);
         for effect in effects.into_vec() {
