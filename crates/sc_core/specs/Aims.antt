@@ -1,6 +1,6 @@
 -- Where an event goes that a session sends, told before anything changes. This host's own rule; only private clauses
 -- cite these definitions.
-use Rattle.std.specs.Prelude.{ℕ, ◌+◌, if◌then◌else◌, Option, Some, None, List, map, slice_get}
+use Rattle.std.specs.Prelude.{ℕ, ◌+◌, ◌<◌, if◌then◌else◌, Option, Some, None, List, map, slice_get}
 use Rattle.std.specs.Option.{option_map_or}
 use Rattle.std.specs.Str.{bytes_eq}
 use Rattle.sc_types.specs.declared.event.Event.{Event}
@@ -28,6 +28,12 @@ aim_named g s (Some name) = if is_cut_from s name then Drops else aim_found (whi
 abbrev pub aim : HostImage → SessionImage → To → Aim
 aim g s who = aim_named g s (receiver_name s who)
 
+-- the place that is reached is one of so many
+abbrev pub AimsWithin : ℕ → Aim → Type 0
+AimsWithin sessions (Reaches place) = place < sessions
+AimsWithin sessions Fails = Unit {0}
+AimsWithin sessions Drops = Unit {0}
+
 -- the receiver at a place gets the event
 abbrev pub received : HostImage → ℕ → SessionImage → Event → SessionImage → Delivered
 received g to s e r = record {
@@ -51,9 +57,10 @@ invokeid_for (Some i) name = if bytes_eq i.session name then Some i.invokeid els
 pub record Outline : Type 0 where
   pub name : List ℕ
   pub phase : Phase
+  pub invoker : Option InvokerImage
 
 abbrev pub outline : SessionImage → Outline
-outline s = record { name = s.state.session; phase = s.state.phase }
+outline s = record { name = s.state.session; phase = s.state.phase; invoker = s.invoker }
 
 abbrev pub outlines : HostImage → List Outline
 outlines g = map outline g.sessions

@@ -6,7 +6,7 @@ use Rattle.sc_types.specs.declared.host.HostImage.{HostImage}
 use Rattle.sc_types.specs.declared.host.InvokerImage.{InvokerImage}
 use Rattle.sc_types.specs.declared.host.SessionImage.{SessionImage}
 use Rattle.sc_base.specs.Ascending.{with_number}
-use Rattle.sc_rooms.specs.Rooms.{place_of}
+use Rattle.std.specs.List.{list_any}
 use Rattle.sc_core.specs.Cues.{is_ready}
 use Rattle.sc_core.specs.declared.body.Body.{Body}
 use Rattle.sc_core.specs.declared.body.InstalledChart.{InstalledChart}
@@ -57,8 +57,8 @@ children_of name from (by ∷ more) =
 
 -- of each name the list of its children; a name of no session invoked none
 pub record IsFamily (names : List (List ℕ)) (inviters : List (Option (List ℕ))) (lists : List (List ℕ)) : Type 0 where
-  pub lists : lists ≡ map (λ name. children_of name 0 inviters) names
-  pub strangers : (name : List ℕ) → place_of name names ≡ None → children_of name 0 inviters ≡ []
+  pub each : lists ≡ map (λ name. children_of name 0 inviters) names
+  pub strangers : (name : List ℕ) → list_any (λ other. bytes_eq other name) names ≡ false → children_of name 0 inviters ≡ []
 
 -- what the body holds beside its data agrees with them
 pub record Agrees {P : Type 0} (h : Body P) : Type 0 where

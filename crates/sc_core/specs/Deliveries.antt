@@ -1,6 +1,6 @@
 -- How the host carries out what a turn asks for (SCXML 6.2, 6.3, 6.4 and C.1). The order of the tests, and which of them
 -- tells the sender, is this host's own rule.
-use Rattle.std.specs.Prelude.{ℕ, ◌+◌, ◌-◌, ◌^◌, ◌==◌, ◌&&◌, Bool, false, not, if◌then◌else◌, min, nat_le, nat_lt, Option, Some, None, option_map, List, [], ◌∷◌, ◌++◌, codes, count_by, filter, slice_get}
+use Rattle.std.specs.Prelude.{ℕ, ◌+◌, ◌-◌, ◌^◌, ◌==◌, ◌&&◌, Bool, false, true, not, if◌then◌else◌, min, nat_le, nat_lt, Option, Some, None, is_some, option_map, List, [], ◌∷◌, ◌++◌, codes, count_by, filter, slice_get}
 use Rattle.std.specs.Option.{option_map_or}
 use Rattle.std.specs.Str.{bytes_eq}
 use Rattle.sc_types.specs.Sends.{is_send, with_send}
@@ -20,7 +20,7 @@ use Rattle.sc_types.specs.declared.limits.TheConstants.{INVOKE_DEPTH_LIMIT}
 use Rattle.sc_types.specs.declared.session.Invoked.{Invoked}
 use Rattle.sc_types.specs.declared.value.Value.{Value}
 use Rattle.sc_law.specs.Runs.{fresh_state, platform_event}
-use Rattle.sc_core.specs.Hosts.{has_chart, is_live, is_running, session_named, with_session}
+use Rattle.sc_core.specs.Hosts.{has_chart, is_live, is_running, session_named, session_place, with_session}
 
 -- the host after one delivery, and what became of it
 pub record Delivered : Type 0 where
@@ -152,9 +152,10 @@ abbrev pub told : Event → SessionImage → SessionImage
 told e s =
     if is_running s.state.phase then record s { state = record s.state { internal = s.state.internal ++ e ∷ [] } } else s
 
--- 6.4: the chart is installed, and the child is not too deep
-abbrev pub may_bear : HostImage → SessionImage → List ℕ → Bool
-may_bear g s chart = has_chart g chart && nat_lt s.depth INVOKE_DEPTH_LIMIT
+-- 6.4: the chart is installed, the child is not too deep, and its name is new. A session counts its children, and no
+-- client starts a session of such a name, so that a name which is taken never comes.
+abbrev pub may_bear : HostImage → SessionImage → List ℕ → List ℕ → Bool
+may_bear g s child chart = has_chart g chart && nat_lt s.depth INVOKE_DEPTH_LIMIT && not (is_some (session_place g child))
 
 abbrev pub born : HostImage → SessionImage → List ℕ → List ℕ → List ℕ → List (List ℕ × Value) → Delivered
 born g s id child chart pairs = record {
@@ -171,7 +172,7 @@ unborn g place s id child = record {
 -- 6.4: a session of an installed chart is started, or the invoking session hears that none is
 abbrev pub invoke : HostImage → ℕ → SessionImage → List ℕ → List ℕ → List ℕ → List (List ℕ × Value) → Delivered
 invoke g place s id child chart pairs =
-    if may_bear g s chart then born g s id child chart pairs else unborn g place s id child
+    if may_bear g s child chart then born g s id child chart pairs else unborn g place s id child
 
 -- its next turn ends it, and it and its invoker hear no more of one another
 abbrev pub cut_off : SessionImage → SessionImage

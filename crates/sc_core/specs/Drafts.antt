@@ -1,5 +1,5 @@
 -- What is prepared of the effects of a turn. This host's own rule; only private clauses cite these definitions.
-use Rattle.std.specs.Prelude.{ℕ, ◌≡◌, ◌≤◌, ◌++◌, All, Option, List, [], ◌∷◌, Some, length, option_map, slice_get}
+use Rattle.std.specs.Prelude.{ℕ, ◌≡◌, ◌≤◌, ◌++◌, All, Option, false, List, [], ◌∷◌, Some, length, map, option_map, slice_get}
 use Rattle.std.specs.List.{AllByRecursion}
 use Rattle.sc_types.specs.declared.history.Delivery.{Delivery}
 use Rattle.sc_types.specs.declared.host.HostImage.{HostImage}
@@ -8,8 +8,7 @@ use Rattle.sc_types.specs.declared.host.SessionImage.{SessionImage}
 use Rattle.sc_types.specs.declared.host.TimerImage.{TimerImage}
 use Rattle.sc_types.specs.declared.session.Phase.TheVariants.{Fresh}
 use Rattle.sc_types.specs.declared.session.SessionState.{SessionState}
-use Rattle.sc_core.specs.Aims.{outlines}
-use Rattle.sc_core.specs.Births.{IsGrown}
+use Rattle.sc_core.specs.Births.{IsGrown, sights}
 use Rattle.sc_core.specs.Changes.{put_state}
 use Rattle.sc_core.specs.Deliveries.{Delivered, DeliveredAll}
 use Rattle.sc_core.specs.Installing.{CanApplyAll, HaveTargets, installed}
@@ -83,7 +82,8 @@ pub record IsDraft {P : Type 0} (who : Stepper) (g : HostImage) (d : Draft P) : 
 
 -- g is the host with the state after the turn put in, of which the first effect is drafted
 pub record IsBase (before : HostImage) (place : ℕ) (after : SessionState) (g : HostImage) : Type 0 where
-  pub outlines : outlines g ≡ outlines (put_state before place after)
+  pub sights : sights g ≡ sights (put_state before place after)
+  pub links : map (λ (s : SessionImage). s.invoker) g.sessions ≡ map (λ (s : SessionImage). s.invoker) before.sessions
   pub own : own_at g place ≡ own_at before place
   pub charts : g.charts ≡ before.charts
   pub clock : g.clock ≡ before.clock

@@ -1,6 +1,6 @@
 -- The children that a session leaves behind as it ends, before anything changes. This host's own rule; only private
 -- clauses cite these definitions.
-use Rattle.std.specs.Prelude.{ℕ, ◌≡◌, ◌==◌, ◌&&◌, ◌++◌, Bool, false, not, if◌then◌else◌, Option, Some, None, option_and_then, List, [], ◌∷◌, filter, filter_map, map, slice_get}
+use Rattle.std.specs.Prelude.{ℕ, ◌≡◌, ◌==◌, ◌&&◌, ◌++◌, Bool, false, not, if◌then◌else◌, Option, Some, None, option_and_then, List, [], ◌∷◌, filter, map, slice_get}
 use Rattle.std.specs.List.{list_any}
 use Rattle.std.specs.Option.{option_map_or}
 use Rattle.sc_types.specs.declared.history.Delivery.{Delivery}
@@ -12,6 +12,8 @@ use Rattle.sc_core.specs.Installing.{CanApplyAll, HaveTargets, installed}
 use Rattle.sc_core.specs.Preparing.{InstallNone}
 use Rattle.sc_core.specs.declared.change.Change.{Change}
 use Rattle.sc_core.specs.declared.change.Change.TheVariants.{CutOff}
+use Rattle.sc_core.specs.Endings.{end_at}
+use Rattle.sc_core.specs.declared.draft.Draft.{Draft}
 use Rattle.sc_core.specs.declared.draft.Placed.{Placed}
 use Rattle.sc_core.specs.declared.session.Session.{Session}
 
@@ -36,16 +38,22 @@ left_if cs place child s =
     if is_left cs place child s then Some (record { name = s.state.session; place = child }) else None
 
 -- of the children at places those that are left behind
+
+abbrev pub put_left : Option Placed → List Placed → List Placed
+put_left None rest = rest
+put_left (Some b) rest = b ∷ rest
+
 abbrev pub old_left : {P : Type 0} → List Session → List (Change P) → ℕ → List ℕ → List Placed
-old_left {P = P} items cs place children =
-    filter_map (λ child. option_and_then (left_if cs place child) (slice_get items child)) children
+old_left items cs place [] = []
+old_left items cs place (child ∷ more) =
+    put_left (option_and_then (left_if cs place child) (slice_get items child)) (old_left items cs place more)
 
 -- of those that are born
 abbrev pub new_left : {P : Type 0} → List (Change P) → List Placed → List Placed
 new_left cs births = filter (λ (b : Placed). not (is_cut_in cs b.place)) births
 
 abbrev pub cut_changes : {P : Type 0} → List Placed → List (Change P)
-cut_changes {P = P} left = map (λ (b : Placed). CutOff {P = P} b.place) left
+cut_changes left = map (λ (b : Placed). CutOff b.place) left
 
 abbrev pub cut_told : List Placed → List Delivery
 cut_told left = map (λ (b : Placed). Flagged b.name) left
@@ -58,3 +66,8 @@ pub record Adds {P : Type 0} (h : HostImage) (old new : List (Change P)) (k : Ho
   pub targets : (n : ℕ) → HaveTargets n more
   pub none : InstallNone more
   pub host : installed more h ≡ k
+
+-- what goes with the end of the session at a place was drafted
+pub record DraftsEnd {P : Type 0} (h : HostImage) (place : ℕ) (old new : Draft P) : Type 0 where
+  pub adds : Adds h old.changes new.changes (end_at h place).host
+  pub sent : new.sent ≡ old.sent ++ (end_at h place).sent

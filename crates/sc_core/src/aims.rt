@@ -1,9 +1,9 @@
-ghost use Rattle.std.specs.Prelude.{ℕ, ◌≡◌, ◌==◌, if◌then◌else◌, Some, IfOk, option_map, slice_get};
+ghost use Rattle.std.specs.Prelude.{ℕ, ◌≡◌, ◌==◌, if◌then◌else◌, Some, IfOk, length, option_map, slice_get};
 ghost use Rattle.std.specs.Option.{option_copied};
-ghost use Rattle.sc_core.specs.Aims.{aim, aim_found, invokeid_for};
+ghost use Rattle.sc_core.specs.Aims.{AimsWithin, aim, aim_found, invokeid_for};
+ghost use Rattle.sc_core.specs.Births.{IsGrown, birth_place};
 ghost use Rattle.sc_core.specs.Bodies.{Agrees, image};
 ghost use Rattle.sc_core.specs.Changes.{put_state};
-ghost use Rattle.sc_core.specs.Births.{IsGrown, birth_place};
 ghost use Rattle.sc_core.specs.Deliveries.{is_cut_from, receiver_name, while_live};
 ghost use Rattle.sc_core.specs.Hosts.{is_live, session_named};
 ghost use Rattle.sc_types.specs.declared.host.HostImage.{HostImage};
@@ -12,7 +12,7 @@ ghost use Rattle.sc_types.specs.declared.host.SessionImage.{SessionImage};
 use crate::body::Body;
 use crate::draft::Placed;
 use crate::session::{Session, is_live};
-use sc_base::{NoMemory, Plain, SharedBytes, Word};
+use sc_base::{NoMemory, Plain, Sequence, SharedBytes, Word};
 use sc_types::{InvokerImage, Phase, SessionState, To};
 
 /// Where an event goes that a session sends.
@@ -85,15 +85,14 @@ fn takes_events(found: usize, session: &Session, place: usize, phase: &Phase) ->
 }
 
 /// The place of a session that is born in the step under way.
-pub(crate) fn birth_place(births: &[Placed], name: &Word) -> Option<usize>
+pub(crate) fn birth_place(births: &Sequence<Placed>, name: &Word) -> Option<usize>
     ensures { result ≡ birth_place births.now name.now }
 {
-    for birth in births {
-        if birth.name.bytes() == name.bytes() {
-            return Some(birth.place);
-        }
-    }
-    None
+    let found = births
+        .slice()
+        .iter()
+        .find(|birth| birth.name.bytes() == name.bytes())?;
+    Some(found.place)
 }
 
 impl<P: Drop> Body<P> {
@@ -101,7 +100,7 @@ impl<P: Drop> Body<P> {
     /// are born.
     pub(crate) fn live_place(
         &self,
-        births: &[Placed],
+        births: &Sequence<Placed>,
         place: usize,
         state: &SessionState,
         name: &Word,
@@ -121,24 +120,27 @@ impl<P: Drop> Body<P> {
         Some(found)
     }
 
-    /// Where an event goes that is sent to the session of a name.
-    fn aim_at(&self, births: &[Placed], place: usize, state: &SessionState, name: &Word) -> Aim
+    /// Where an event goes that is sent to the session of a name, once the state of the session at a place is this one.
+    fn aim_at(&self, place: usize, state: &SessionState, name: &Word) -> Aim
         requires agrees { Agrees self.now }
         requires there { option_map (λ (s : SessionImage). s.state.session) (slice_get (image self.now).sessions place)
             ≡ Some state.now.session }
-        ensures { (h : HostImage) → IsGrown (put_state (image self.now) place state.now) births.now h
-            → result ≡ aim_found (while_live (session_named h name.now)) }
+        ensures aim { result
+            ≡ aim_found (while_live (session_named (put_state (image self.now) place state.now) name.now)) }
+        ensures within { AimsWithin (length self.now.sessions.items) result }
     {
-        match self.live_place(births, place, state, name) {
-            Some(found) => Aim::Reaches(found),
-            None => Aim::Fails,
+        let Some((found, session)) = self.session_named(name) else {
+            return Aim::Fails;
+        };
+        if !takes_events(found, session, place, &state.phase) {
+            return Aim::Fails;
         }
+        Aim::Reaches(found)
     }
 
-    /// Where an event goes that the session at a place sends, once its state is this one, and these are born.
+    /// Where an event goes that the session at a place sends, once its state is this one.
     pub(crate) fn aim(
         &self,
-        births: &[Placed],
         place: usize,
         state: &SessionState,
         invoker: &Option<InvokerImage>,
@@ -147,8 +149,9 @@ impl<P: Drop> Body<P> {
         requires agrees { Agrees self.now }
         requires there { option_map (λ (s : SessionImage). s.state.session) (slice_get (image self.now).sessions place)
             ≡ Some state.now.session }
-        ensures { (h : HostImage) (s : SessionImage) → IsGrown (put_state (image self.now) place state.now) births.now h
-            → s.state.session ≡ state.now.session → s.invoker ≡ invoker.now → result ≡ aim h s who.now }
+        ensures aim { (s : SessionImage) → s.state.session ≡ state.now.session → s.invoker ≡ invoker.now
+            → result ≡ aim (put_state (image self.now) place state.now) s who.now }
+        ensures within { AimsWithin (length self.now.sessions.items) result }
     {
         let Some(name) = receiver_name(&state.session, invoker, who) else {
             return Aim::Fails;
@@ -156,6 +159,6 @@ impl<P: Drop> Body<P> {
         if is_cut_from(invoker, name) {
             return Aim::Drops;
         }
-        self.aim_at(births, place, state, name)
+        self.aim_at(place, state, name)
     }
 }

@@ -1,4 +1,4 @@
-ghost use Rattle.std.specs.Prelude.{◌≡◌, ◌<◌, [], None, Some, length, not, filter, option_map, slice_get};
+ghost use Rattle.std.specs.Prelude.{◌≡◌, ◌<◌, [], None, Some, true, length, not, filter, option_map, slice_get};
 ghost use Rattle.std.specs.Str.{bytes_eq};
 ghost use Rattle.sc_rooms.specs.Rooms.{place_of};
 ghost use Rattle.sc_core.specs.Bodies.{Agrees, Makes, children_room, image};

@@ -101,11 +101,10 @@ impl<P: Drop> Body<P> {
         event: Event,
     ) -> Result<Delivery, NoMemory>
         requires number { draft.old.events + 1 < 2 ^ 128 }
-        ensures draft { OnOk result (draft.new ≡ record draft.old {
+        ensures made { IfOk result (λ told. (draft.new ≡ record draft.old {
             changes = draft.old.changes ++ change.Queue place event ∷ [];
             events = draft.old.events + 1;
-        }) }
-        ensures told { IfOk result (λ told. told ≡ Delivery.Queued (draft.old.events + 1) session) }
+        }) × (told ≡ Delivery.Queued (draft.old.events + 1) session)) }
     {
         let number = draft.events + 1;
         draft.changes.push(Change::Queue { place, event })?;
@@ -138,7 +137,7 @@ impl<P: Drop> Body<P> {
         if is_cut_from(invoker, name) {
             return Ok(Delivery::Dropped);
         }
-        let Some(receiver) = self.live_place(draft.births.slice(), place, after, name) else {
+        let Some(receiver) = self.live_place(&draft.births, place, after, name) else {
             return self.draft_failure(alloc, draft, place, after, &event.sendid);
         };
         let invokeid = invokeid_for(invoker, name)?;

@@ -1,10 +1,10 @@
-ghost use Rattle.std.specs.Prelude.{◌≡◌, ◌==◌, ◌+◌, ◌^◌, ◌<◌, ◌≤◌, ◌++◌, ◌∷◌, [], Some, IfOk, OnOk, length, option_map, slice_get};
+ghost use Rattle.std.specs.Prelude.{◌≡◌, ◌==◌, ◌+◌, ◌^◌, ◌<◌, ◌≤◌, ◌++◌, ◌∷◌, [], Some, IfOk, OnOk, length, option_and_then, option_map, slice_get};
 ghost use Rattle.sc_core.specs.Births.{IsGrown};
 ghost use Rattle.sc_core.specs.Bodies.{Agrees, image};
 ghost use Rattle.sc_core.specs.Changes.{put_state};
 ghost use Rattle.sc_core.specs.Drafts.{IsSender, so_far};
-ghost use Rattle.sc_core.specs.Endings.{end_at, end_event, tell_end, tell_invoker};
-ghost use Rattle.sc_core.specs.Parting.{Adds, cut_changes, cut_told, cuts, is_cut, is_cut_in, is_left, new_left, old_left};
+ghost use Rattle.sc_core.specs.Endings.{end_event, tell_end, tell_invoker};
+ghost use Rattle.sc_core.specs.Parting.{Adds, DraftsEnd, cut_changes, cut_told, cuts, is_cut, is_cut_in, is_left, left_if, new_left, old_left, put_left};
 ghost use Rattle.sc_core.specs.declared.session.Session.{Session};
 ghost use Rattle.sc_types.specs.declared.host.HostImage.{HostImage};
 ghost use Rattle.sc_types.specs.declared.host.SessionImage.{SessionImage};
@@ -78,11 +78,11 @@ fn is_left<P>(changes: &Queue<Change<P>>, place: usize, child: usize, session: &
 fn add_births<P>(
     left: &mut Sequence<Placed>,
     changes: &Queue<Change<P>>,
-    births: &[Placed],
+    births: &Sequence<Placed>,
 ) -> Result<(), NoMemory>
     ensures { OnOk result (left.new ≡ left.old ++ new_left changes.now births.now) }
 {
-    for birth in births {
+    for birth in births.slice() {
         if !is_cut_in(changes, birth.place) {
             left.push(Placed {
                 name: birth.name.copy()?,
@@ -108,6 +108,29 @@ fn draft_left<P: Drop>(draft: &mut Draft<P>, children: Sequence<Placed>) -> Resu
 }
 
 impl<P: Drop> Body<P> {
+    /// Adds the child at a place, where the end of the session at another leaves it behind.
+    fn add_left(
+        &self,
+        left: &mut Sequence<Placed>,
+        changes: &Queue<Change<P>>,
+        place: usize,
+        child: usize,
+    ) -> Result<(), NoMemory>
+        ensures { OnOk result (left.new
+            ≡ left.old ++ put_left (option_and_then (left_if changes.now place child) (slice_get self.now.sessions.items child)) []) }
+    {
+        let Some(session) = self.sessions.get(child) else {
+            return Ok(());
+        };
+        if !is_left(changes, place, child, session) {
+            return Ok(());
+        }
+        left.push(Placed {
+            name: session.state.session.copy()?,
+            place: child,
+        })
+    }
+
     /// The children of the session at a place that the host has and that its end leaves behind, in order of start.
     fn old_children(
         &self,
@@ -122,15 +145,7 @@ impl<P: Drop> Body<P> {
     {
         let mut left = Sequence::new(alloc);
         for child in self.children_at(place).iter() {
-            let Some(session) = self.sessions.get(*child) else {
-                unreachable!();
-            };
-            if is_left(changes, place, *child, session) {
-                left.push(Placed {
-                    name: session.state.session.copy()?,
-                    place: *child,
-                })?;
-            }
+            self.add_left(&mut left, changes, place, *child)?;
         }
         Ok(left)
     }
@@ -168,7 +183,7 @@ impl<P: Drop> Body<P> {
         if invoker.cut {
             return Ok(Delivery::Dropped);
         }
-        match self.live_place(draft.births.slice(), place, after, &invoker.session) {
+        match self.live_place(&draft.births, place, after, &invoker.session) {
             Some(found) => self.draft_queue(draft, found, invoker.session.copy()?, event),
             None => Ok(Delivery::Dropped),
         }
@@ -203,8 +218,32 @@ impl<P: Drop> Body<P> {
         draft.sent.push(what)
     }
 
-    /// Prepares what goes with the end of the session at a place, where its turn ended it: it is cleared, its children
-    /// are cancelled, and its invoker is told.
+    /// Prepares what goes with the end of the session at a place: it is cleared, its children are cancelled, and its
+    /// invoker is told.
+    fn draft_over(
+        &self,
+        alloc: Global,
+        draft: &mut Draft<P>,
+        place: usize,
+        after: &SessionState,
+        how: &How,
+    ) -> Result<(), NoMemory>
+        requires agrees { Agrees self.now }
+        requires within { place < length self.now.sessions.items }
+        requires there { option_map (λ (s : SessionImage). s.state.session) (slice_get (image self.now).sessions place)
+            ≡ Some after.now.session }
+        requires number { draft.old.events + 1 < 2 ^ 128 }
+        ensures { OnOk result ((g : HostImage) (t : SessionImage) → IsSender (image self.now) place after.now g draft.old t
+            → after.now.phase ≡ Phase.Ended how.now → DraftsEnd (so_far g draft.old) place draft.old draft.new) }
+    {
+        let mut left = self.old_children(alloc, &draft.changes, place)?;
+        add_births(&mut left, &draft.changes, &draft.births)?;
+        draft.changes.push(Change::End { place })?;
+        draft_left(draft, left)?;
+        self.tell_invoker(alloc, draft, place, after, how)
+    }
+
+    /// Prepares what goes with the end of the session at a place, where its turn ended it.
     pub(crate) fn draft_end(
         &self,
         alloc: Global,
@@ -218,16 +257,12 @@ impl<P: Drop> Body<P> {
             ≡ Some after.now.session }
         requires number { draft.old.events + 1 < 2 ^ 128 }
         ensures { OnOk result ((g : HostImage) (t : SessionImage) → IsSender (image self.now) place after.now g draft.old t
-            → Adds (so_far g draft.old) draft.old.changes draft.new.changes (end_at (so_far g draft.old) place).host
-            × (draft.new.sent ≡ draft.old.sent ++ (end_at (so_far g draft.old) place).sent)) }
+            → DraftsEnd (so_far g draft.old) place draft.old draft.new) }
     {
-        let Phase::Ended(how) = &after.phase else {
-            return Ok(());
-        };
-        let mut left = self.old_children(alloc, &draft.changes, place)?;
-        add_births(&mut left, &draft.changes, draft.births.slice())?;
-        draft.changes.push(Change::End { place })?;
-        draft_left(draft, left)?;
-        self.tell_invoker(alloc, draft, place, after, how)
+        match &after.phase {
+            Phase::Ended(how) => self.draft_over(alloc, draft, place, after, how),
+            Phase::Fresh => Ok(()),
+            Phase::Running => Ok(()),
+        }
     }
 }

@@ -1,11 +1,14 @@
-ghost use Rattle.std.specs.Prelude.{◌≡◌, ◌+◌, ◌^◌, ◌<◌, ◌≤◌, [], Some, IfOk, OnOk, length, option_map, slice_get};
+ghost use Rattle.std.specs.Prelude.{ℕ, ◌≡◌, ◌+◌, ◌^◌, ◌<◌, ◌≤◌, [], None, Some, false, true, is_some, IfOk, OnOk, length, option_map, slice_get};
 ghost use Rattle.sc_core.specs.Bodies.{Agrees, image, session_image};
-ghost use Rattle.sc_core.specs.Deliveries.{born, cancel_child, hand_to, invoke, unborn, while_live};
+ghost use Rattle.sc_core.specs.Deliveries.{born, cancel_child, hand_to, invoke, may_bear, unborn, while_live};
 ghost use Rattle.sc_core.specs.Drafts.{Drafts, IsSender, so_far, stepper};
-ghost use Rattle.sc_core.specs.Hosts.{session_named};
+ghost use Rattle.sc_core.specs.Births.{IsGrown};
+ghost use Rattle.sc_core.specs.Changes.{put_state};
+ghost use Rattle.sc_core.specs.Hosts.{session_named, session_place};
 ghost use Rattle.sc_law.specs.Runs.{fresh_state};
 ghost use Rattle.sc_types.specs.declared.host.HostImage.{HostImage};
 ghost use Rattle.sc_types.specs.declared.host.SessionImage.{SessionImage};
+ghost use Rattle.sc_types.specs.declared.session.SessionState.{SessionState};
 
 use crate::aims::birth_place;
 use crate::body::Body;
@@ -14,7 +17,7 @@ use crate::draft::{Draft, Placed};
 use crate::failures::unborn_event;
 use crate::session::{Session, is_running};
 use crate::starts::fresh_state;
-use sc_base::{NoMemory, Plain, SharedBytes, Word};
+use sc_base::{NoMemory, Plain, Sequence, SharedBytes, Word};
 use sc_rooms::RoomyQueue;
 use sc_types::{
     Delivery, Event, INVOKE_DEPTH_LIMIT, InvokerImage, PairList, SessionState,
@@ -47,13 +50,19 @@ fn child_session(
     }) }
     ensures children { IfOk result (λ s. s.children.items ≡ []) }
 {
+    let Invocation {
+        invokeid,
+        child,
+        chart,
+        pairs,
+    } = invocation;
     let link = InvokerImage {
         session: invoker.copy()?,
-        invokeid: invocation.invokeid,
+        invokeid,
         cut: false,
     };
     Ok(Session {
-        state: fresh_state(alloc, &invocation.child, &invocation.chart, invocation.pairs)?,
+        state: fresh_state(alloc, &child, &chart, pairs)?,
         failures: RoomyQueue::new(alloc),
         queued: RoomyQueue::new(alloc),
         flagged: false,
@@ -75,8 +84,42 @@ impl<P: Drop> Body<P> {
         }
     }
 
-    /// Prepares that a session is born. One whose name is taken is answered as being out of memory: the children of a
-    /// session are counted, so that no two have one name.
+    /// Whether a session has this name, or one that is born.
+    fn is_taken(&self, births: &Sequence<Placed>, name: &Word) -> bool
+        requires agrees { Agrees self.now }
+        ensures { (state : SessionState) (place : ℕ) (h : HostImage)
+            → option_map (λ (s : SessionImage). s.state.session) (slice_get (image self.now).sessions place) ≡ Some state.session
+            → IsGrown (put_state (image self.now) place state) births.now h
+            → result ≡ is_some (session_place h name.now) }
+    {
+        self.session_place(name).is_some() || birth_place(births, name).is_some()
+    }
+
+    /// Whether a session at this depth may invoke another.
+    fn may_bear(&self, births: &Sequence<Placed>, depth: u32, invocation: &Invocation) -> bool
+        requires agrees { Agrees self.now }
+        ensures may { (state : SessionState) (place : ℕ) (h : HostImage) (t : SessionImage)
+            → option_map (λ (s : SessionImage). s.state.session) (slice_get (image self.now).sessions place) ≡ Some state.session
+            → IsGrown (put_state (image self.now) place state) births.now h → h.charts ≡ (image self.now).charts
+            → t.depth ≡ depth → result ≡ may_bear h t invocation.now.child invocation.now.chart }
+        ensures deep { result ≡ true → depth < 16 }
+    {
+        self.has_chart(&invocation.chart)
+            && depth < INVOKE_DEPTH_LIMIT
+            && !self.is_taken(births, &invocation.child)
+    }
+
+    /// The place of the next session that is born. Places past the last number are larger than any memory.
+    fn next_place(&self, births: &Sequence<Placed>) -> Result<usize, NoMemory>
+        ensures { IfOk result (λ n. n ≡ length self.now.sessions.items + length births.now) }
+    {
+        match self.sessions.len().checked_add(births.len()) {
+            Some(place) => Ok(place),
+            None => Err(NoMemory),
+        }
+    }
+
+    /// Prepares that a session is born, whose name is new.
     fn draft_birth(
         &self,
         alloc: Global,
@@ -90,6 +133,8 @@ impl<P: Drop> Body<P> {
         requires within { place < length self.now.sessions.items }
         requires there { option_map (λ (s : SessionImage). s.state.session) (slice_get (image self.now).sessions place)
             ≡ Some after.now.session }
+        requires new { (g : HostImage) (t : SessionImage) → IsSender (image self.now) place after.now g draft.old t
+            → session_place (so_far g draft.old) invocation.child ≡ None }
         requires depth { option_map (λ (s : SessionImage). s.depth + 1) (slice_get (image self.now).sessions place) ≡ Some depth }
         ensures told { IfOk result (λ told. (g : HostImage) (t : SessionImage)
             → IsSender (image self.now) place after.now g draft.old t
@@ -99,10 +144,7 @@ impl<P: Drop> Body<P> {
         ensures number { OnOk result (draft.new.events ≤ draft.old.events + 1) }
     {
         let child = invocation.child.copy()?;
-        if self.session_place(&child).is_some() || birth_place(draft.births.slice(), &child).is_some() {
-            return Err(NoMemory);
-        }
-        let at = self.sessions.len().checked_add(draft.births.len()).ok_or(NoMemory)?;
+        let at = self.next_place(&draft.births)?;
         let session = child_session(alloc, &after.session, depth, invocation)?;
         draft.changes.push(Change::Bear {
             invoker: place,
@@ -133,10 +175,11 @@ impl<P: Drop> Body<P> {
         ensures number { OnOk result (draft.new.events ≤ draft.old.events + 1) }
     {
         draft.changes.push(Change::DropInvoke { place, child })?;
-        if is_running(&after.phase) {
-            let event = unborn_event(alloc, invokeid)?;
-            draft.changes.push(Change::Tell { place, event })?;
+        if !is_running(&after.phase) {
+            return Ok(Delivery::Unborn);
         }
+        let event = unborn_event(alloc, invokeid)?;
+        draft.changes.push(Change::Tell { place, event })?;
         Ok(Delivery::Unborn)
     }
 
@@ -161,7 +204,7 @@ impl<P: Drop> Body<P> {
         ensures number { OnOk result (draft.new.events ≤ draft.old.events + 1) }
     {
         let depth = self.depth_at(place);
-        if !self.has_chart(&invocation.chart) || depth >= INVOKE_DEPTH_LIMIT {
+        if !self.may_bear(&draft.births, depth, &invocation) {
             return self.draft_unborn(
                 alloc,
                 draft,
@@ -192,7 +235,7 @@ impl<P: Drop> Body<P> {
             (cancel_child (so_far g draft.old) child (while_live (session_named (so_far g draft.old) child))) told) }
         ensures number { OnOk result (draft.new.events ≤ draft.old.events + 1) }
     {
-        let Some(found) = self.live_place(draft.births.slice(), place, after, &child) else {
+        let Some(found) = self.live_place(&draft.births, place, after, &child) else {
             return Ok(Delivery::Nothing);
         };
         if found == place {
@@ -221,7 +264,7 @@ impl<P: Drop> Body<P> {
             (hand_to (so_far g draft.old) child event (while_live (session_named (so_far g draft.old) child))) told) }
         ensures number { OnOk result (draft.new.events ≤ draft.old.events + 1) }
     {
-        match self.live_place(draft.births.slice(), place, after, &child) {
+        match self.live_place(&draft.births, place, after, &child) {
             Some(found) => self.draft_queue(draft, found, child, event),
             None => Ok(Delivery::Dropped),
         }

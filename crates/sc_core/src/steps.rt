@@ -39,6 +39,16 @@ fn put_changes<P: Drop>(
     Ok(changes)
 }
 
+/// How many changes a step makes at most, of which so many are those of its effects and of its end.
+fn step_count(count: usize) -> Result<usize, NoMemory>
+    ensures { IfOk result (λ n. n ≡ count + 3) }
+{
+    match count.checked_add(3) {
+        Some(all) => Ok(all),
+        None => Err(NoMemory),
+    }
+}
+
 /// Puts changes behind others.
 fn append<P: Drop>(
     changes: &mut Queue<Change<P>>,
@@ -98,10 +108,12 @@ impl<P: Drop> Body<P> {
         ensures none { IfOk result (λ p. InstallNone p.changes) }
     {
         let (after, effects, logs) = turned.into_parts();
+        // A length fits a usize, so the numbers of events cannot run out.
+        let _count = effects.len();
         let mut draft = self.draft_effects(alloc, place, &after, effects)?;
         self.draft_end(alloc, &mut draft, place, &after)?;
         let mut changes = put_changes(alloc, place, cue, after)?;
-        let count = draft.changes.len().checked_add(3).ok_or(NoMemory)?;
+        let count = step_count(draft.changes.len())?;
         let more = with_rooms(alloc, draft.changes, self.sessions.len(), count)?;
         append(&mut changes, more)?;
         changes.push(Change::Count)?;

@@ -158,7 +158,7 @@ impl<P: Drop> Body<P> {
         let Some((place, sender)) = self.session_named(&send.session) else {
             return draft.lose();
         };
-        match self.aim(&[], place, &sender.state, &sender.invoker, &send.to) {
+        match self.aim(place, &sender.state, &sender.invoker, &send.to) {
             Aim::Reaches(to) => draft.reach(to, self.name_at(to), &sender.invoker),
             Aim::Fails => draft.fail(alloc, place, &sender.state.phase, &send.event.sendid),
             Aim::Drops => draft.lose(),
