@@ -31,13 +31,6 @@ run_says budget source faulted text (Ok s) told says =
     says_of_script budget source faulted text told (script_of text) refl (status_of s) (text_of s) says
 run_says budget source faulted text (Err e) told says = tt
 
--- what is reported of a run is what is said of a script
-pub ran_says : {E : Type 0} (budget : ℕ) (script : Script) (r : Result Saying E)
-    → IfOk r (λ s. Reports script budget (status_of s) (text_of s))
-    → IfOk r (λ s. SaysOfScript budget (Ok script) (status_of s) (text_of s))
-ran_says budget script (Ok s) reports = ran script (status_of s) (text_of s) reports
-ran_says budget script (Err e) reports = tt
-
 -- of a text that should spell a chart
 says_of_chart : (source : Option (List ℕ)) (faulted : Type 0) (text : List ℕ) → IsRead (Some Check) source text
     → (status : Status) (said : List ℕ) (r : Result Chart ChartFault) → legal_chart_of text ≡ r

@@ -13,4 +13,4 @@ returns-clause-makes g c =
     (λ s. with_session (image h) c.args.place (without_invoke c.args.child.now s))
     c.requires.agrees c.item_mut-session.ensures.value refl (omega arith) (omega arith)
     (c.mark.ensures.places ∙ ap (λ b. marked b c.args.place h.ready.places) c.is_ready.ensures)
-    c.mark.ensures.room (omega arith) refl refl (rw c.without_child.ensures refl)
+    c.mark.ensures.room (omega arith) refl refl (rw (c.without_child.ensures, c.replace-invokes.ensures.value) refl)
