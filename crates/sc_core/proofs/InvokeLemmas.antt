@@ -35,6 +35,23 @@ map_push f (x ∷ xs) y = ap (λ rest. f x ∷ rest) (map_push f xs y)
 
 -- ---- a session is born
 
+-- what is put into the draft
+pub born_put : {P : Type 0} (old : Draft P) (cs : List (Change P)) (bs : List Placed) (place : ℕ) (s : Session)
+    (n m child : List ℕ) (at long : ℕ) → cs ≡ old.changes ++ Bear place n s ∷ []
+    → bs ≡ old.births ++ record { name = m; place = at } ∷ [] → n ≡ child → m ≡ child → at ≡ long
+    → record old { changes = cs; births = bs } ≡ record old {
+      changes = old.changes ++ Bear place child s ∷ [];
+      births = old.births ++ record { name = child; place = long } ∷ [];
+    }
+born_put {P = P} old cs bs place s n m child at long changes births named called found =
+    let c : List ℕ → Change P = λ x. Bear place x s in
+    let b : List ℕ → ℕ → Placed = λ x y. record { name = x; place = y } in
+    let made : cs ≡ old.changes ++ c child ∷ [] = changes ∙ ap (λ x. old.changes ++ c x ∷ []) named in
+    let put : bs ≡ old.births ++ b child long ∷ [] =
+    births ∙ ap (λ x. old.births ++ b x at ∷ []) called ∙ ap (λ y. old.births ++ b child y ∷ []) found in
+    let f : List (Change P) → List Placed → Draft P = λ x y. record old { changes = x; births = y } in
+    ap (λ x. f x bs) made ∙ ap (f (old.changes ++ c child ∷ [])) put
+
 pub born_drafted : {P : Type 0} (who : Stepper) (g : HostImage) (old new : Draft P) (t : SessionImage) (s : Session)
     (id child chart : List ℕ) (pairs : List (List ℕ × Value)) → IsDraft who g old
     → slice_get (so_far g old).sessions who.place ≡ Some t → t.state.session ≡ who.name → who.place < length g.sessions

@@ -216,7 +216,7 @@ links_after who (c ∷ cs) g all can =
     links_after who cs (apply c g) all.1 can.1 ∙ links_on who g c cs all.0 can.0
 
 -- those of the sessions that are born are bound to the session
-IsOwn : List ℕ → Link → Type 0
+pub IsOwn : List ℕ → Link → Type 0
 IsOwn name o = (id : List ℕ) × (o ≡ Some (record { session = name; invokeid = id; cut = false }))
 
 born_own : {P : Type 0} (who : Stepper) (cs : List (Change P)) → AllByRecursion (IsOfStep who) cs

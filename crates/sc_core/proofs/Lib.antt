@@ -14,6 +14,7 @@ pub mod HeldLemmas
 pub mod InstallLemmas
 pub mod InvokeLemmas
 pub mod LeftLemmas
+pub mod LoopLemmas
 pub mod MoveLemmas
 pub mod NameLemmas
 pub mod NewbornLemmas

@@ -2,7 +2,9 @@
 use Rattle.std.proofs.Common.{◌≡◌, ℕ, ◌+◌, ◌-◌, ◌<◌, ◌≤◌, ◌++◌, ◌||◌, nat_le, zero, suc, Bool, true, false, Some, None, unwrap_or, List, [], ◌∷◌, append-nil, length, length-append, slice_get, refl, arith, sym, ap, subst, ◌∙◌}
 use Rattle.std.specs.List.{AllByRecursion, list_any}
 use Rattle.std.proofs.lemmas.Bool.Decides.{nat_tests}
+use Rattle.sc_rooms.specs.Rooms.{RoomyOf}
 use Rattle.sc_types.specs.declared.chart.Chart.{Chart}
+use Rattle.sc_types.specs.declared.event.Event.{Event}
 use Rattle.sc_types.specs.declared.host.HostImage.{HostImage}
 use Rattle.sc_core.specs.Bodies.{inviter, session_image}
 use Rattle.sc_core.specs.HostStates.{ArePlanned}
@@ -119,23 +121,23 @@ room_all n (r ∷ rs) (suc place) all l = room_all n rs place all.1 (omega (arit
 
 long_on : {P : Type 0} (c : Change P) (cs : List (Change P)) (g : HostImage)
     → length (apply c g).sessions + length (new_rooms cs) ≡ length g.sessions + length (new_rooms (c ∷ cs))
-long_on Count cs g = ap (λ n. n + length (new_rooms cs)) (apply_long Count g tt)
-long_on (Advance clock) cs g = ap (λ n. n + length (new_rooms cs)) (apply_long (Advance clock) g tt)
-long_on (Install name chart) cs g = ap (λ n. n + length (new_rooms cs)) (apply_long (Install name chart) g tt)
-long_on (Start name session) cs g = let long = length-append g.sessions (session_image session ∷ []) in omega (arith, long)
-long_on (Bear invoker name session) cs g = let long = length-append g.sessions (session_image session ∷ []) in omega (arith, long)
-long_on (PutState place state) cs g = ap (λ n. n + length (new_rooms cs)) (apply_long (PutState place state) g tt)
-long_on (TakeFront place) cs g = ap (λ n. n + length (new_rooms cs)) (apply_long (TakeFront place) g tt)
-long_on (Queue place e) cs g = ap (λ n. n + length (new_rooms cs)) (apply_long (Queue place e) g tt)
-long_on (Tell place e) cs g = ap (λ n. n + length (new_rooms cs)) (apply_long (Tell place e) g tt)
-long_on (Flag place) cs g = ap (λ n. n + length (new_rooms cs)) (apply_long (Flag place) g tt)
-long_on (CutOff place) cs g = ap (λ n. n + length (new_rooms cs)) (apply_long (CutOff place) g tt)
-long_on (DropInvoke place child) cs g = ap (λ n. n + length (new_rooms cs)) (apply_long (DropInvoke place child) g tt)
-long_on (End place) cs g = ap (λ n. n + length (new_rooms cs)) (apply_long (End place) g tt)
-long_on (Delay send) cs g = ap (λ n. n + length (new_rooms cs)) (apply_long (Delay send) g tt)
-long_on (Undo session id) cs g = ap (λ n. n + length (new_rooms cs)) (apply_long (Undo session id) g tt)
-long_on (Fire place id) cs g = ap (λ n. n + length (new_rooms cs)) (apply_long (Fire place id) g tt)
-long_on Lose cs g = ap (λ n. n + length (new_rooms cs)) (apply_long Lose g tt)
+long_on {P = P} Count cs g = ap (λ n. n + length (new_rooms cs)) (apply_long {P = P} Count g tt)
+long_on {P = P} (Advance clock) cs g = ap (λ n. n + length (new_rooms cs)) (apply_long {P = P} (Advance clock) g tt)
+long_on {P = P} (Install name chart) cs g = ap (λ n. n + length (new_rooms cs)) (apply_long {P = P} (Install name chart) g tt)
+long_on {P = P} (Start name session) cs g = let long = length-append g.sessions (session_image session ∷ []) in omega (arith, long)
+long_on {P = P} (Bear invoker name session) cs g = let long = length-append g.sessions (session_image session ∷ []) in omega (arith, long)
+long_on {P = P} (PutState place state) cs g = ap (λ n. n + length (new_rooms cs)) (apply_long {P = P} (PutState place state) g tt)
+long_on {P = P} (TakeFront place) cs g = ap (λ n. n + length (new_rooms cs)) (apply_long {P = P} (TakeFront place) g tt)
+long_on {P = P} (Queue place e) cs g = ap (λ n. n + length (new_rooms cs)) (apply_long {P = P} (Queue place e) g tt)
+long_on {P = P} (Tell place e) cs g = ap (λ n. n + length (new_rooms cs)) (apply_long {P = P} (Tell place e) g tt)
+long_on {P = P} (Flag place) cs g = ap (λ n. n + length (new_rooms cs)) (apply_long {P = P} (Flag place) g tt)
+long_on {P = P} (CutOff place) cs g = ap (λ n. n + length (new_rooms cs)) (apply_long {P = P} (CutOff place) g tt)
+long_on {P = P} (DropInvoke place child) cs g = ap (λ n. n + length (new_rooms cs)) (apply_long {P = P} (DropInvoke place child) g tt)
+long_on {P = P} (End place) cs g = ap (λ n. n + length (new_rooms cs)) (apply_long {P = P} (End place) g tt)
+long_on {P = P} (Delay send) cs g = ap (λ n. n + length (new_rooms cs)) (apply_long {P = P} (Delay send) g tt)
+long_on {P = P} (Undo session id) cs g = ap (λ n. n + length (new_rooms cs)) (apply_long {P = P} (Undo session id) g tt)
+long_on {P = P} (Fire place id) cs g = ap (λ n. n + length (new_rooms cs)) (apply_long {P = P} (Fire place id) g tt)
+long_on {P = P} Lose cs g = ap (λ n. n + length (new_rooms cs)) (apply_long {P = P} Lose g tt)
 
 either : (a b : Bool) → a ≡ true → (a || b) ≡ true
 either true b is = refl
@@ -303,3 +305,21 @@ pub goes_alike : {P : Type 0} (gets : Bool) (count : ℕ) (whole rest roomy : Li
     → GoesOn gets count whole rest roomy → AreAlike whole roomy
 goes_alike {P = P} gets count whole rest roomy none so =
     subst (AreAlike whole) (append-nil roomy) (so.alike [] (subst (λ cs. AreAlike cs []) (sym none) tt))
+
+-- ---- one session, and one change
+
+pub roomier : (s : Session) (queue : RoomyOf Event) → queue.items ≡ s.queued.items
+    → IsRoomier s (record s { queued = queue })
+roomier s queue kept =
+    record { spare = queue.spare; is = ap (λ items. record s { queued = record queue { items = items } }) kept }
+
+pub roomier_same : (s : Session) → IsRoomier s s
+roomier_same s = record { spare = s.queued.spare; is = refl }
+
+pub alike_born : {P : Type 0} (c : Change P) (invoker : ℕ) (name : List ℕ) (s w : Session) → c ≡ Bear invoker name s
+    → IsRoomier s w → IsAlike c (Bear invoker name w)
+alike_born c invoker name s w is roomy = born invoker name s w is refl roomy
+
+pub alike_started : {P : Type 0} (c : Change P) (name : List ℕ) (s w : Session) → c ≡ Start name s → IsRoomier s w
+    → IsAlike c (Start name w)
+alike_started c name s w is roomy = started name s w is refl roomy

@@ -74,6 +74,23 @@ fn is_left<P>(changes: &Queue<Change<P>>, place: usize, child: usize, session: &
         && !is_cut_in(changes, child)
 }
 
+/// Adds a session that is born, where the changes leave it bound.
+fn add_birth<P>(
+    left: &mut Sequence<Placed>,
+    changes: &Queue<Change<P>>,
+    birth: &Placed,
+) -> Result<(), NoMemory>
+    ensures { OnOk result (left.new ≡ left.old ++ new_left changes.now (birth.now ∷ [])) }
+{
+    if is_cut_in(changes, birth.place) {
+        return Ok(());
+    }
+    left.push(Placed {
+        name: birth.name.copy()?,
+        place: birth.place,
+    })
+}
+
 /// Adds the sessions that are born and that the changes leave bound.
 fn add_births<P>(
     left: &mut Sequence<Placed>,
@@ -82,13 +99,12 @@ fn add_births<P>(
 ) -> Result<(), NoMemory>
     ensures { OnOk result (left.new ≡ left.old ++ new_left changes.now births.now) }
 {
-    for birth in births.slice() {
-        if !is_cut_in(changes, birth.place) {
-            left.push(Placed {
-                name: birth.name.copy()?,
-                place: birth.place,
-            })?;
-        }
+    // A length fits a usize, so the number cannot run out.
+    let _end = births.len();
+    let mut number = 0;
+    while let Some(birth) = births.get(number) {
+        add_birth(left, changes, birth)?;
+        number += 1;
     }
     Ok(())
 }
@@ -143,9 +159,14 @@ impl<P: Drop> Body<P> {
         ensures { IfOk result (λ left. (s : Session) → slice_get self.now.sessions.items place ≡ Some s
             → left ≡ old_left self.now.sessions.items changes.now place s.children.items) }
     {
+        let children = self.children_at(place);
+        // A length fits a usize, so the number cannot run out.
+        let _end = children.len();
         let mut left = Sequence::new(alloc);
-        for child in self.children_at(place).iter() {
+        let mut number = 0;
+        while let Some(child) = children.get(number) {
             self.add_left(&mut left, changes, place, *child)?;
+            number += 1;
         }
         Ok(left)
     }

@@ -42,13 +42,13 @@ returns-clause-step g c = λ s there.
     let b = with_session before place (put_in s cue t) in
     let ends = c.in_ok-draft_end.ensures b sender.0
     (subst (λ (x : SessionState × List Effect × List LogLine). IsSender before place x.0 b d sender.0) (sym parts) sender.1) in
-    let first : c.len-3.result ≡ length before.sessions =
-    c.len-3.ensures.items ∙ sym (map_long session_image c.args.self.now.sessions.items) in
+    let first : c.len-2.result ≡ length before.sessions =
+    c.len-2.ensures.items ∙ sym (map_long session_image c.args.self.now.sessions.items) in
     let roomy = subst (λ n. (h : HostImage) → length h.sessions ≡ n → CanApplyAll h e.changes
     → AllByRecursion (IsRoomy n c.in_ok-count.count (new_rooms c.in_ok-more.more)) c.in_ok-more.more) first
     c.in_ok-more.ensures.roomy in
     let whole = turn_whole before place s cue t d e c.in_ok-more.more c.in_ok-count.count there drafted ends
-    c.in_ok-more.ensures.alike (omega (arith, c.in_ok-count.ensures, c.len-2.ensures)) roomy in
+    c.in_ok-more.ensures.alike (omega (arith, c.in_ok-count.ensures, c.len.ensures)) roomy in
     step_prepared before place s cue t c.in_ok-more.more _ _ there named c.requires.commands refl
     (turn_counted before place s cue t d drafted) whole
     (c.in_ok-push.ensures.ok ∙ ap (λ cs. cs ++ Count ∷ []) (c.in_ok-append.ensures
@@ -76,13 +76,13 @@ returns-clause-none g c = λ chart_of.
     let sender = sender_at before place t.after b d base drafted.draft (slice_get_within before.sessions place s there) in
     let ends = c.in_ok-draft_end.ensures b sender.0
     (subst (λ (x : SessionState × List Effect × List LogLine). IsSender before place x.0 b d sender.0) (sym parts) sender.1) in
-    let first : c.len-3.result ≡ length before.sessions =
-    c.len-3.ensures.items ∙ sym (map_long session_image c.args.self.now.sessions.items) in
+    let first : c.len-2.result ≡ length before.sessions =
+    c.len-2.ensures.items ∙ sym (map_long session_image c.args.self.now.sessions.items) in
     let roomy = subst (λ n. (h : HostImage) → length h.sessions ≡ n → CanApplyAll h e.changes
     → AllByRecursion (IsRoomy n c.in_ok-count.count (new_rooms c.in_ok-more.more)) c.in_ok-more.more) first
     c.in_ok-more.ensures.roomy in
     let whole = turn_whole before place s cue t d e c.in_ok-more.more c.in_ok-count.count there drafted ends
-    c.in_ok-more.ensures.alike (omega (arith, c.in_ok-count.ensures, c.len-2.ensures)) roomy in
+    c.in_ok-more.ensures.alike (omega (arith, c.in_ok-count.ensures, c.len.ensures)) roomy in
     let changes = c.in_ok-push.ensures.ok ∙ ap (λ cs. cs ++ Count ∷ []) (c.in_ok-append.ensures
     ∙ ap (λ cs. cs ++ c.in_ok-more.more) (c.in_ok-changes.ensures ∙ ap (λ x. put_changes place cue x.0) parts))
     ∙ append_assoc (put_changes place cue t.after) c.in_ok-more.more (Count ∷ []) in

@@ -1,4 +1,4 @@
-use Rattle.std.proofs.Common.{ap, refl, arith, ◌∙◌}
+use Rattle.std.proofs.Common.{ap, refl, sym, arith, ◌∙◌}
 use Rattle.sc_core.specs.Bodies.{image, marked}
 use Rattle.sc_core.specs.Deliveries.{without_invoke}
 use Rattle.sc_core.specs.Hosts.{with_session}
@@ -13,4 +13,4 @@ returns-clause-makes g c =
     (λ s. with_session (image h) c.args.place (without_invoke c.args.child.now s))
     c.requires.agrees c.item_mut-session.ensures.value refl (omega arith) (omega arith)
     (c.mark.ensures.places ∙ ap (λ b. marked b c.args.place h.ready.places) c.is_ready.ensures)
-    c.mark.ensures.room (omega arith) refl refl (rw (c.without_child.ensures, c.replace-invokes.ensures.value) refl)
+    c.mark.ensures.room (omega arith) refl refl (rw (c.without_child.ensures, sym c.replace-invokes.ensures.value) refl)
