@@ -17,7 +17,7 @@ loop-child-preserved g c =
     let count : length (into_iter_items was.child-iterator) ≡ length rest + 1 = ap length items ∙ omega arith in
     record {
       len = omega (arith, was.invariant.len, count, c.in-Some.ensures.steps.1);
-      drafts = left_next was.draft c.push.new.self c.push-2.new.self c.in-Some.child _ rest items c.in_ok-push.ensures.ok
+      drafts = left_next was.draft c.push.new.self c.push-in-loop-child.new.self c.in-Some.child _ rest items c.in_ok-push.ensures.ok
           c.in_ok-push-2.ensures.ok ∙ was.invariant.drafts;
     }
 

@@ -1,7 +1,9 @@
 use Rattle.std.proofs.Common.{◌≡◌, ◌+◌, ◌^◌, ◌<◌, ◌++◌, ◌∷◌, [], Some, None, false, map, option_map, slice_get, refl, arith, ap, subst, sym, ◌∙◌}
 use Rattle.std.proofs.lemmas.Option.{same_Some}
 use Rattle.sc_types.specs.declared.host.SessionImage.{SessionImage}
+use Rattle.sc_core.specs.Births.{IsGrown}
 use Rattle.sc_core.specs.Bodies.{children_of, image, inviter, session_image}
+use Rattle.sc_core.specs.Changes.{put_state}
 use Rattle.sc_core.specs.Deliveries.{DeliveredAll}
 use Rattle.sc_core.specs.Drafts.{so_far}
 use Rattle.sc_core.specs.Endings.{cleared, tell_end, with_children_left}
@@ -44,9 +46,12 @@ returns g c = on_ok c.tell_invoker.result _ _ c.tell_invoker.ensures (λ tells h
     let made = c.in_ok-draft_left.ensures in
     let m = with_children_left (cleared k place t) t.state.session in
     let told = tells m found.session found.there (ap (λ d. d.events) made ∙ sender.draft.events)
-    (left_grown _ k place t _ sender.there (sender_grown before place after h old t sender)) in
+    (subst (λ bs. IsGrown (put_state before place after) bs m) (sym (ap (λ d. d.births) made))
+    (left_grown (put_state before place after) k place t old.births sender.there
+    (sender_grown before place after h old t sender))) in
     end_drafted k place t how old _ _ left _ sender.there (found.is.phase ∙ ended) is
     (ap (λ d. d.changes) made ∙ ap (λ cs. cs ++ cut_changes left) c.in_ok-push.ensures.ok)
     (ap (λ d. d.sent) made)
-    (subst (λ o. Adds m _ _ (tell_end m o how).host) (sym found.is.invoker) told.0)
-    (told.1 ∙ ap (λ o. _ ++ (tell_end m o how).sent) (sym found.is.invoker)))
+    (subst (λ o. Adds m c.draft_left.new.draft.changes c.tell_invoker.new.draft.changes (tell_end m o how).host)
+    (sym found.is.invoker) told.0)
+    (told.1 ∙ ap (λ o. c.draft_left.new.draft.sent ++ (tell_end m o how).sent) (sym found.is.invoker)))

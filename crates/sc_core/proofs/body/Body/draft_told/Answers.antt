@@ -15,7 +15,7 @@ returns-in_ok-copy-in-Some-clause-adds g c =
     each_ok (λ told made h events grown.
     let found = found_there h i.session c.in-Some.found (c.in-Some.ensures h grown) in
     told_queued h old _ i c.args.event c.in-Some.found found.0 told c.if-invoker.false found.1 found.2 events c.requires.number
-    made.0 (made.1 ∙ ap (λ n. Queued (old.events + 1) n) c.in_ok-copy.ensures)) c.draft_queue.result c.draft_queue.ensures.made
+    made.0 (made.1 ∙ ap (λ n. Queued (old.events + 1) n) c.in_ok-copy-in-Some.ensures)) c.draft_queue.result c.draft_queue.ensures.made
 
 pub returns-in-None-clause-adds : goal.returns-in-None-clause-adds
 returns-in-None-clause-adds g c = λ h events grown.
