@@ -226,46 +226,6 @@ outlines_sent g place s who e there =
     ap (λ (d : Delivered). outlines d.host) (carried_is_sent g place s who e)
     ∙ outlines_carried g place s e (aim g s who) there
 
-outlines_delay : (g : HostImage) (s : SessionImage) (who : To) (e : Event) (delay : ℕ)
-    → outlines (delay_send g s who e delay).host ≡ outlines g
-outlines_delay g s who e delay = by (is_live s.state.phase && nat_lt g.delayed (2 ^ 64 - 1))
-  where
-    later : Delivered
-    later = record {
-      host = record g { delayed = g.delayed + 1; timers = with_send (next_send g s who e delay) g.timers };
-      what = Timed (g.delayed + 1) (due_time g.clock delay);
-    }
-
-    by : (b : Bool) → outlines (if b then later else left_as g Dropped).host ≡ outlines g
-    by true = refl
-    by false = refl
-
-outlines_effect : (g : HostImage) (place : ℕ) (s : SessionImage) (effect : Effect) → slice_get g.sessions place ≡ Some s
-    → outlines (deliver_of g place s effect).host ≡ outlines g
-outlines_effect g place s (Send e who delay) there = by (delay == 0)
-  where
-    by : (now : Bool)
-        → outlines (if now then send_now g place s who e else delay_send g s who e delay).host ≡ outlines g
-    by true = outlines_sent g place s who e there
-    by false = outlines_delay g s who e delay
-outlines_effect g place s (CancelSend []) there = refl
-outlines_effect g place s (CancelSend (b ∷ id)) there = refl
-outlines_effect g place s (Invoke id child chart pairs) there = refl
-outlines_effect g place s (CancelChild child) there = refl
-outlines_effect g place s (Forward child e) there = refl
-
--- an effect is carried out
-pub outlines_deliver : (g : HostImage) (place : ℕ) (effect : Effect)
-    → outlines (deliver g place effect).host ≡ outlines g
-unfolding deliver
-outlines_deliver g place effect = by (slice_get g.sessions place) refl
-  where
-    by : (o : Option SessionImage) → slice_get g.sessions place ≡ o
-        → outlines (option_map_or (λ (s : SessionImage). deliver_of g place s effect) o (left_as g Nothing)).host
-        ≡ outlines g
-    by None at = refl
-    by (Some s) at = outlines_effect g place s effect at
-
 -- a send that came due is sent
 pub outlines_fire : (g : HostImage) (t : TimerImage) → outlines (fire g t).host ≡ outlines g
 unfolding fire
@@ -286,7 +246,7 @@ set_here [] i x y there = absurd cc
 set_here (z ∷ zs) zero x y there = refl
 set_here (z ∷ zs) (suc i) x y there = set_here zs i x y there
 
-set_other : {X : Type 0} (xs : List X) (i j : ℕ) (y : X) → (j ≡ i → ⊥)
+pub set_other : {X : Type 0} (xs : List X) (i j : ℕ) (y : X) → (j ≡ i → ⊥)
     → slice_get (slice_set xs i y) j ≡ slice_get xs j
 set_other [] i j y differ = refl
 set_other (x ∷ xs) zero zero y differ = absurd (differ refl)

@@ -5,7 +5,7 @@ use Rattle.sc_types.specs.declared.host.HostImage.{HostImage}
 use Rattle.sc_core.specs.HostStates.{ArePlanned}
 use Rattle.sc_core.specs.Installing.{CanApplyAll, HaveTargets, apply, installed}
 use Rattle.sc_core.specs.declared.change.Change.{Change}
-use Rattle.sc_core.specs.declared.change.Change.TheVariants.{Count, Advance, Install, Start, PutState, TakeFront, Queue, Tell, Flag, End, Delay, Undo, Fire, Lose}
+use Rattle.sc_core.specs.declared.change.Change.TheVariants.{Count, Advance, Install, Start, Bear, PutState, TakeFront, Queue, Tell, Flag, CutOff, DropInvoke, End, Delay, Undo, Fire, Lose}
 
 -- they are made of the host machine that the others leave
 pub installed_more : {P : Type 0} (cs ds : List (Change P)) (g : HostImage)
@@ -33,11 +33,14 @@ planned_more f (Install name chart ∷ cs) ds before after = (before.0, planned_
 planned_more f (Count ∷ cs) ds before after = planned_more f cs ds before after
 planned_more f (Advance clock ∷ cs) ds before after = planned_more f cs ds before after
 planned_more f (Start name session ∷ cs) ds before after = planned_more f cs ds before after
+planned_more f (Bear invoker name session ∷ cs) ds before after = planned_more f cs ds before after
 planned_more f (PutState place state ∷ cs) ds before after = planned_more f cs ds before after
 planned_more f (TakeFront place ∷ cs) ds before after = planned_more f cs ds before after
 planned_more f (Queue place e ∷ cs) ds before after = planned_more f cs ds before after
 planned_more f (Tell place e ∷ cs) ds before after = planned_more f cs ds before after
 planned_more f (Flag place ∷ cs) ds before after = planned_more f cs ds before after
+planned_more f (CutOff place ∷ cs) ds before after = planned_more f cs ds before after
+planned_more f (DropInvoke place child ∷ cs) ds before after = planned_more f cs ds before after
 planned_more f (End place ∷ cs) ds before after = planned_more f cs ds before after
 planned_more f (Delay send ∷ cs) ds before after = planned_more f cs ds before after
 planned_more f (Undo session id ∷ cs) ds before after = planned_more f cs ds before after

@@ -10,14 +10,14 @@ use Rattle.sc_types.specs.declared.event.Event.{Event}
 use Rattle.sc_types.specs.declared.host.HostImage.{HostImage}
 use Rattle.sc_types.specs.declared.host.SessionImage.{SessionImage}
 use Rattle.sc_types.specs.declared.host.TimerImage.{TimerImage}
-use Rattle.sc_core.specs.Changes.{queue_at, tell}
+use Rattle.sc_core.specs.Changes.{at_session, queue_at, tell}
 use Rattle.sc_core.specs.Counting.{count_after}
-use Rattle.sc_core.specs.Deliveries.{queue}
-use Rattle.sc_core.specs.Drafts.{IsOfStep}
+use Rattle.sc_core.specs.Deliveries.{cut_off, queue, without_invoke}
+use Rattle.sc_core.specs.Drafts.{IsOfStep, Stepper}
 use Rattle.sc_core.specs.Hosts.{with_session}
 use Rattle.sc_core.specs.Installing.{apply, installed}
 use Rattle.sc_core.specs.declared.change.Change.{Change}
-use Rattle.sc_core.specs.declared.change.Change.TheVariants.{Advance, Count, Delay, End, Fire, Flag, Install, Lose, PutState, Queue, Start, TakeFront, Tell, Undo}
+use Rattle.sc_core.specs.declared.change.Change.TheVariants.{Advance, Bear, Count, CutOff, Delay, DropInvoke, End, Fire, Flag, Install, Lose, PutState, Queue, Start, TakeFront, Tell, Undo}
 
 count_one : (p : TimerImage → Bool) (t : TimerImage) (ts : List TimerImage)
     → count_by p (t ∷ ts) ≡ cond (p t) 1 0 + count_by p ts
@@ -116,29 +116,42 @@ tell_timers g place e = by (slice_get g.sessions place)
     by None = refl
     by (Some s) = refl
 
+at_timers : (g : HostImage) (place : ℕ) (f : SessionImage → SessionImage) → (at_session g place f).timers ≡ g.timers
+at_timers g place f = by (slice_get g.sessions place)
+  where
+    by : (o : Option SessionImage)
+        → (option_map_or (λ (s : SessionImage). with_session g place (f s)) o g).timers ≡ g.timers
+    by None = refl
+    by (Some s) = refl
+
 -- a change of a step changes the count so
-count_is : {P : Type 0} (session id : List ℕ) (c : Change P) (g : HostImage) → IsOfStep session c
-    → count_after session id c (count_by (is_send session id) g.timers) ≡ count_by (is_send session id) (apply c g).timers
-count_is session id (Queue place e) g of = ap (count_by (is_send session id)) (sym (queue_timers g place e))
-count_is session id (Tell place e) g of = ap (count_by (is_send session id)) (sym (tell_timers g place e))
-count_is session id (Delay send) g of =
-    delay_count (is_send session id send) (count_by (is_send session id) g.timers)
-    ∙ sym (with_count (is_send session id) send g.timers)
-count_is session id (Undo of undone) g is =
-    ap (λ s. if bytes_eq s session && bytes_eq undone id then 0 else count_by (is_send session id) g.timers) is
-    ∙ own_name session (bytes_eq undone id) (count_by (is_send session id) g.timers)
-    ∙ undo_count session id undone g (bytes_eq undone id) refl
-    ∙ ap (λ s. count_by (is_send session id) (filter (λ t. not (is_send s undone t)) g.timers)) (sym is)
-count_is session id Count g of = absurd of
-count_is session id (Advance clock) g of = absurd of
-count_is session id (Install name chart) g of = absurd of
-count_is session id (Start name s) g of = absurd of
-count_is session id (PutState place state) g of = absurd of
-count_is session id (TakeFront place) g of = absurd of
-count_is session id (Flag place) g of = absurd of
-count_is session id (End place) g of = absurd of
-count_is session id (Fire place i) g of = absurd of
-count_is session id Lose g of = absurd of
+count_is : {P : Type 0} (who : Stepper) (id : List ℕ) (c : Change P) (g : HostImage) → IsOfStep who c
+    → count_after who.name id c (count_by (is_send who.name id) g.timers)
+    ≡ count_by (is_send who.name id) (apply c g).timers
+count_is who id (Queue place e) g of = ap (count_by (is_send who.name id)) (sym (queue_timers g place e))
+count_is who id (Tell place e) g of = ap (count_by (is_send who.name id)) (sym (tell_timers g place e))
+count_is who id (Delay send) g of =
+    delay_count (is_send who.name id send) (count_by (is_send who.name id) g.timers)
+    ∙ sym (with_count (is_send who.name id) send g.timers)
+count_is who id (Undo of undone) g is =
+    ap (λ s. if bytes_eq s who.name && bytes_eq undone id then 0 else count_by (is_send who.name id) g.timers) is
+    ∙ own_name who.name (bytes_eq undone id) (count_by (is_send who.name id) g.timers)
+    ∙ undo_count who.name id undone g (bytes_eq undone id) refl
+    ∙ ap (λ s. count_by (is_send who.name id) (filter (λ t. not (is_send s undone t)) g.timers)) (sym is)
+count_is who id (Bear invoker name s) g of = refl
+count_is who id (CutOff place) g of = ap (count_by (is_send who.name id)) (sym (at_timers g place cut_off))
+count_is who id (DropInvoke place child) g of =
+    ap (count_by (is_send who.name id)) (sym (at_timers g place (without_invoke child)))
+count_is who id Count g of = absurd of
+count_is who id (Advance clock) g of = absurd of
+count_is who id (Install name chart) g of = absurd of
+count_is who id (Start name s) g of = absurd of
+count_is who id (PutState place state) g of = absurd of
+count_is who id (TakeFront place) g of = absurd of
+count_is who id (Flag place) g of = absurd of
+count_is who id (End place) g of = absurd of
+count_is who id (Fire place i) g of = absurd of
+count_is who id Lose g of = absurd of
 
 -- after several
 abbrev pub counted : {P : Type 0} → List ℕ → List ℕ → List (Change P) → ℕ → ℕ
@@ -146,8 +159,10 @@ counted session id [] n = n
 counted session id (c ∷ cs) n = counted session id cs (count_after session id c n)
 
 -- the count after the changes of a step is that of the sends which are pending then
-pub counted_is : {P : Type 0} (session id : List ℕ) (cs : List (Change P)) (g : HostImage) → AllByRecursion (IsOfStep session) cs
-    → counted session id cs (count_by (is_send session id) g.timers) ≡ count_by (is_send session id) (installed cs g).timers
-counted_is session id [] g all = refl
-counted_is session id (c ∷ cs) g all =
-    ap (counted session id cs) (count_is session id c g all.0) ∙ counted_is session id cs (apply c g) all.1
+pub counted_is : {P : Type 0} (who : Stepper) (id : List ℕ) (cs : List (Change P)) (g : HostImage)
+    → AllByRecursion (IsOfStep who) cs
+    → counted who.name id cs (count_by (is_send who.name id) g.timers)
+    ≡ count_by (is_send who.name id) (installed cs g).timers
+counted_is who id [] g all = refl
+counted_is who id (c ∷ cs) g all =
+    ap (counted who.name id cs) (count_is who id c g all.0) ∙ counted_is who id cs (apply c g) all.1

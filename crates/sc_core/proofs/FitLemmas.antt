@@ -1,6 +1,6 @@
 -- Sessions that fit their charts, as the host changes.
-use Rattle.std.proofs.Common.{◌≡◌, ℕ, zero, suc, ◌+◌, ◌<◌, ◌++◌, ◌||◌, nat_lt, not, Bool, true, false, cond, All, Option, Some, None, Result, Ok, Err, option_and_then, unwrap_or, List, [], ◌∷◌, length, length-append, map, slice_get, refl, sym, ap, subst, ◌∙◌, arith}
-use Rattle.std.specs.List.{list_any, position, position_or_len}
+use Rattle.std.proofs.Common.{◌≡◌, ℕ, zero, suc, ◌+◌, ◌<◌, ◌++◌, ◌||◌, nat_lt, not, Bool, true, false, cond, All, Option, Some, None, Result, Ok, Err, option_and_then, unwrap_or, List, [], ◌∷◌, length, length-append, map, slice_get, refl, sym, ap, subst, ◌∙◌, arith, filter, ◌&&◌, if◌then◌else◌}
+use Rattle.std.specs.List.{AllByRecursion, IsDistinct, list_all, list_any, position, position_or_len}
 use Rattle.std.specs.Result.{result_ok}
 use Rattle.std.proofs.lemmas.Bool.Decides.{nat_tests}
 use Rattle.std.proofs.lemmas.Option.{get_or_from_slice_get, slice_get_within, slice_get-get_or}
@@ -17,8 +17,11 @@ use Rattle.sc_types.specs.declared.session.Cue.{Cue}
 use Rattle.sc_types.specs.declared.session.Cue.TheVariants.{Cancel, External, Fresh, Resume}
 use Rattle.sc_types.specs.declared.session.Phase.{Phase}
 use Rattle.sc_types.specs.declared.session.Phase.TheVariants as phase
+use Rattle.sc_types.specs.declared.session.Invoked.{Invoked}
 use Rattle.sc_types.specs.declared.session.SessionState.{SessionState}
-use Rattle.sc_law.specs.Fitting.{Fits, FitsRun, HasCue, fresh, runs}
+use Rattle.std.specs.Str.{bytes_eq}
+use Rattle.sc_base.specs.Ascending.{contains}
+use Rattle.sc_law.specs.Fitting.{Fits, FitsRun, HasCue, fresh, is_own_invoke, is_same_element, runs}
 use Rattle.sc_expr.specs.Reading.{expr_of}
 use Rattle.sc_law.specs.Legality.{legal_fault}
 use Rattle.sc_law.specs.LegalCharts.{legal_chart_of, legal_or_fault}
@@ -26,7 +29,7 @@ use Rattle.sc_law.specs.Turn.{TurnResult, begin, turn}
 use Rattle.sc_law.specs.Turned.{IsTurn, IsTurnOf, TurnedOf}
 use Rattle.sc_core.specs.Commands.{fresh_session}
 use Rattle.sc_core.specs.Cues.{cue_in, cue_of, outer_cue, queued_cue}
-use Rattle.sc_core.specs.Deliveries.{hears}
+use Rattle.sc_core.specs.Deliveries.{hears, told, unborn_event, without_invoke}
 use Rattle.sc_core.specs.FittingHosts.{FitsChart}
 use Rattle.sc_core.specs.Hosts.{bare_chart, chart_named, has_chart, is_chart_named, is_live, is_running}
 use Rattle.sc_core.proofs.TurnLemmas.{IsPast, turn-of, turn-past}
@@ -219,6 +222,106 @@ hears-fits g s sendid running f = record {
   chart = f.chart;
   fits = λ live. hears_fits (chart_named g s.state.chart) s sendid running (f.fits live);
 }
+
+-- ---- invocations
+
+-- both hold
+pub both_hold : (a b : Bool) → (a && b) ≡ true → (a ≡ true) × (b ≡ true)
+both_hold true b h = (refl, h)
+both_hold false b h = absurd (cc)
+
+kept_all : {X : Type 0} (p q : X → Bool) (xs : List X) → list_all p xs ≡ true → list_all p (filter q xs) ≡ true
+kept_all p q [] h = refl
+kept_all {X = X} p q (x ∷ xs) h =
+    let two = both_hold (p x) (list_all p xs) h in by (q x) two.0 (kept_all p q xs two.1) where
+  by : (v : Bool) → p x ≡ true → list_all p (filter q xs) ≡ true
+      → list_all p (cond v (x ∷ filter q xs) (filter q xs)) ≡ true
+  by true own rest = ap (λ b. b && list_all p (filter q xs)) own ∙ rest
+  by false own rest = rest
+
+kept_each : {X : Type 0} (P : X → Type 0) (q : X → Bool) (xs : List X) → AllByRecursion P xs → AllByRecursion P (filter q xs)
+kept_each P q [] h = tt
+kept_each P q (x ∷ xs) h = by (q x) (kept_each P q xs h.1) where
+  by : (v : Bool) → AllByRecursion P (filter q xs) → AllByRecursion P (cond v (x ∷ filter q xs) (filter q xs))
+  by true rest = (h.0, rest)
+  by false rest = rest
+
+kept_distinct : {X : Type 0} (same : X → X → Bool) (q : X → Bool) (xs : List X) → IsDistinct same xs
+    → IsDistinct same (filter q xs)
+unfolding IsDistinct
+kept_distinct same q [] h = tt
+kept_distinct same q (x ∷ xs) h = by (q x) (kept_distinct same q xs h.1) where
+  by : (v : Bool) → IsDistinct same (filter q xs) → IsDistinct same (cond v (x ∷ filter q xs) (filter q xs))
+  by true rest = (kept_each (λ y. same x y ≡ false) q xs h.0, rest)
+  by false rest = rest
+
+-- a run that fits does so with fewer invocations
+dropped_run : (c : Chart) (s : SessionState) (q : Invoked → Bool) → FitsRun c (begin c s)
+    → FitsRun c (begin c (record s { invokes = filter q s.invokes }))
+dropped_run c s q f = record {
+  legal = f.legal;
+  active = f.active;
+  entered = f.entered;
+  in_order = f.in_order;
+  kept = f.kept;
+  recorded = f.recorded;
+  invokes = kept_all (is_own_invoke c s.configuration) q s.invokes f.invokes;
+  no_invoke_twice = kept_distinct is_same_element q s.invokes f.no_invoke_twice;
+  to_start = f.to_start;
+  none_started = kept_all (λ (i : Invoked). not (contains (begin c s).running.todo i.state)) q s.invokes f.none_started;
+  no_name_twice = f.no_name_twice;
+  declared = f.declared;
+}
+
+dropped_fits : (c : Chart) (s : SessionState) (q : Invoked → Bool) → Fits c s
+    → Fits c (record s { invokes = filter q s.invokes })
+dropped_fits c s q (fresh e) = fresh (ap (λ (x : SessionState). record x { invokes = filter q x.invokes }) e)
+dropped_fits c s q (runs r) = runs (record { running = r.running; fits = dropped_run c s q r.fits })
+
+heard_run : (c : Chart) (s : SessionState) (e : Event) → FitsRun c (begin c s)
+    → FitsRun c (begin c (record s { internal = s.internal ++ e ∷ [] }))
+heard_run c s e f = record {
+  legal = f.legal;
+  active = f.active;
+  entered = f.entered;
+  in_order = f.in_order;
+  kept = f.kept;
+  recorded = f.recorded;
+  invokes = f.invokes;
+  no_invoke_twice = f.no_invoke_twice;
+  to_start = f.to_start;
+  none_started = f.none_started;
+  no_name_twice = f.no_name_twice;
+  declared = f.declared;
+}
+
+heard_fits : (c : Chart) (s : SessionState) (e : Event) → is_running s.phase ≡ true → Fits c s
+    → Fits c (record s { internal = s.internal ++ e ∷ [] })
+heard_fits c s e running (fresh is) =
+    let is_fresh : s.phase ≡ phase.Fresh = ap (λ (x : SessionState). x.phase) is in
+    let never : true ≡ false = sym running ∙ ap is_running is_fresh in
+    absurd (cc)
+heard_fits c s e running (runs r) = runs (record { running = r.running; fits = heard_run c s e r.fits })
+
+-- a session that is told of an event fits its chart as before
+pub told-fits : (g : HostImage) (s : SessionImage) (e : Event) → FitsChart g s → FitsChart g (told e s)
+told-fits g s e f = by (is_running s.state.phase) refl where
+  by : (runs : Bool) → is_running s.state.phase ≡ runs
+      → FitsChart g (if runs then record s { state = record s.state { internal = s.state.internal ++ e ∷ [] } } else s)
+  by true running = record {
+    chart = f.chart;
+    fits = λ live. heard_fits (chart_named g s.state.chart) s.state e running (f.fits live);
+  }
+  by false running = f
+
+-- and one whose invocation started nothing
+pub unborn-fits : (g : HostImage) (s : SessionImage) (id child : List ℕ) → FitsChart g s
+    → FitsChart g (told (unborn_event id) (without_invoke child s))
+unborn-fits g s id child f = told-fits g (without_invoke child s) (unborn_event id) (record {
+  chart = f.chart;
+  fits = λ live. dropped_fits (chart_named g s.state.chart) s.state (λ (i : Invoked). not (bytes_eq i.child child))
+      (f.fits live);
+})
 
 -- ---- plans
 

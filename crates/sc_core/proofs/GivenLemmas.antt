@@ -1,5 +1,5 @@
 -- What a step consumes was given before, to that very session.
-use Rattle.std.proofs.Common.{◌≡◌, ℕ, zero, suc, ◌+◌, ◌==◌, ◌||◌, ◌&&◌, true, false, Option, Some, IfSome, IsTrue, List, [], ◌∷◌, ◌++◌, drop, slice_get, slice_set, refl, sym, ap, subst, ◌∙◌, rules}
+use Rattle.std.proofs.Common.{◌≡◌, ℕ, zero, suc, ◌+◌, ◌==◌, ◌||◌, ◌&&◌, true, false, Option, Some, IfSome, IsTrue, List, [], ◌∷◌, ◌++◌, drop, slice_get, slice_set, refl, sym, ap, subst, ◌∙◌, rules, map, append_assoc}
 use Rattle.std.specs.List.{list_any, AllByRecursion}
 use Rattle.std.proofs.lemmas.Bool.Decides.{nat_tests}
 use Rattle.std.proofs.lemmas.List.Folds.{list_any-append}
@@ -23,12 +23,13 @@ use Rattle.sc_types.specs.declared.value.Value.{Value}
 use Rattle.sc_law.specs.Turn.{turn}
 use Rattle.sc_core.specs.Commands.{Answer, answer, posted_event, put_in}
 use Rattle.sc_core.specs.Cues.{cue_of, name_of, queue_left}
-use Rattle.sc_core.specs.Deliveries.{deliver_all, end_at, fire_all, queue}
+use Rattle.sc_core.specs.Deliveries.{deliver_all, fire_all, queue}
+use Rattle.sc_core.specs.Endings.{end_at}
 use Rattle.sc_core.specs.Histories.{Tells, IsLegal, consumed_in, consumed, is_posted, is_queued, gives, GivenBefore}
 use Rattle.sc_core.specs.Hosts.{chart_named, with_session}
 use Rattle.sc_core.proofs.ChangeLemmas.{Change, cancels, change_of, installs, posts, refuses, starts, ticks, turns}
 use Rattle.sc_core.proofs.FoundLemmas.{is_at}
-use Rattle.sc_core.proofs.MoveLemmas.{Gift, Keeps, Move, Moves, all_fire, all_move, due_in, emptied, end_moves, ends, gifts, given_in, goes, puts, queues, same, still, ticked}
+use Rattle.sc_core.proofs.MoveLemmas.{Gift, IsParted, Keeps, Move, Moves, all_fire, all_move, bears, due_in, emptied, end_moves, ends, gifts, given_in, goes, parts, puts, queues, same, still, ticked}
 use Rattle.sc_core.proofs.Once.{external_front}
 use Rattle.sc_core.proofs.TurnLemmas.{turn-of}
 
@@ -124,12 +125,27 @@ queue_given done g place s e there gift given =
     all_set (QueueWasGiven done) g.sessions place _ given
     (all_push (WasGiven done s.state.session) s.queued (record e { number = g.events + 1 }) own gift)
 
+parted_given : (done : List Entry) (g : HostImage) (f : SessionImage → SessionImage) → ((s : SessionImage) → IsParted g s (f s))
+    → (xs : List SessionImage) → AllByRecursion (QueueWasGiven done) xs → AllByRecursion (QueueWasGiven done) (map f xs)
+parted_given done g f part [] h = tt
+parted_given done g f part (x ∷ xs) h = (
+  subst (λ n. AllByRecursion (WasGiven done n) (f x).queued) (sym (part x).named)
+      (subst (AllByRecursion (WasGiven done x.state.session)) (sym (part x).queued) h.0),
+  parted_given done g f part xs h.1,
+)
+
 -- a move leaves waiting what was given
 move_given : (done : List Entry) (g h : HostImage) (given : List Gift) → Move g h given
     → AllByRecursion (IsGift done) given → AllWereGiven done g → AllWereGiven done h
 move_given done g h given (still sessions events charts commands is) gift all = subst (AllByRecursion (QueueWasGiven done)) (sym sessions) all
 move_given done g h given (puts place s put there named kept fits sessions events charts commands is) gift all =
     put_given done g h place s put there named (λ P. kept_given P s.queued put.queued kept) sessions all
+move_given done g h given (bears s queued new fits sessions events charts commands is) gift all =
+    subst (AllByRecursion (QueueWasGiven done)) (sym sessions)
+    (all_push (QueueWasGiven done) g.sessions s all
+    (subst (AllByRecursion (WasGiven done s.state.session)) (sym queued) tt))
+move_given done g h given (parts f part sessions events charts commands is) gift all =
+    subst (AllByRecursion (QueueWasGiven done)) (sym sessions) (parted_given done g f part g.sessions all)
 move_given done g h given (queues place s e there is new) gift all =
     let one : AllByRecursion (IsGift done) ((g.events + 1, s.state.session) ∷ []) = subst (AllByRecursion (IsGift done)) new gift in
     subst (AllWereGiven done) (sym is) (queue_given done g place s e there one.0 all)
@@ -142,7 +158,8 @@ all_second : {X : Type 0} (P : X → Type 0) (xs ys : List X) → AllByRecursion
 all_second P [] ys h = h
 all_second P (x ∷ xs) ys h = all_second P xs ys h.1
 
-all_both : {X : Type 0} (P : X → Type 0) (xs ys : List X) → AllByRecursion P xs → AllByRecursion P ys → AllByRecursion P (xs ++ ys)
+-- what all items of two lists have, all of both have
+pub all_both : {X : Type 0} (P : X → Type 0) (xs ys : List X) → AllByRecursion P xs → AllByRecursion P ys → AllByRecursion P (xs ++ ys)
 all_both P [] ys h k = k
 all_both P (x ∷ xs) ys h k = (h.0, all_both P xs ys h.1 k)
 
@@ -195,6 +212,11 @@ told_gifts done e sent is =
     (ap (λ b. is_posted c e.command e.reply || b) (ap (list_any (is_queued c)) is ∙ h) ∙ or-true (is_posted c e.command e.reply)))
     (gifts sent) (told_all sent)
 
+-- what two rows of deliveries gave
+gifts_both : (xs ys : List Delivery) → gifts (xs ++ ys) ≡ gifts xs ++ gifts ys
+gifts_both [] ys = refl
+gifts_both (x ∷ xs) ys = ap (λ more. given_in x ++ more) (gifts_both xs ys) ∙ sym (append_assoc (given_in x) (gifts xs) (gifts ys))
+
 -- the same host with another count of commands
 counted_given : (done : List Entry) (g : HostImage) (count : ℕ) → AllWereGiven done g
     → AllWereGiven done (record g { commands = count })
@@ -234,13 +256,18 @@ given_kept done g e a (turns session place s c command found has is) told h =
     let t = turn (chart_named g s.state.chart) s.state c in
     let put = with_session g place (put_in s c t) in
     let delivered = deliver_all put place t.effects in
-    let tells = told_gifts done e delivered.sent (told.sent ∙ ap (λ (x : Answer). x.sent) is) in
+    let ended = end_at delivered.host place in
+    let tells : AllByRecursion (IsGift (done ++ e ∷ [])) (gifts delivered.sent ++ gifts ended.sent) =
+    subst (AllByRecursion (IsGift (done ++ e ∷ []))) (gifts_both delivered.sent ended.sent)
+    (told_gifts done e (delivered.sent ++ ended.sent) (told.sent ∙ ap (λ (x : Answer). x.sent) is)) in
     let started : AllWereGiven (done ++ e ∷ []) put =
     put_given (done ++ e ∷ []) g put place s (put_in s c t) at.there
     (turn-of (chart_named g s.state.chart) s.state c).session (λ P. left_given P c s.queued) refl (all_given_later done e g h) in
-    let all = moves_given (done ++ e ∷ []) put delivered.host _ (all_move put place t.effects) tells started in
+    let all = moves_given (done ++ e ∷ []) put delivered.host _ (all_move put place t.effects)
+    (all_first (IsGift (done ++ e ∷ [])) (gifts delivered.sent) (gifts ended.sent) tells) started in
     subst (λ (x : Answer). AllWereGiven (done ++ e ∷ []) x.host) (sym is)
-    (move_given (done ++ e ∷ []) delivered.host (end_at delivered.host place) [] (end_moves delivered.host place) tt all)
+    (moves_given (done ++ e ∷ []) delivered.host ended.host _ (end_moves delivered.host place)
+    (all_second (IsGift (done ++ e ∷ [])) (gifts delivered.sent) (gifts ended.sent) tells) all)
 
 -- what an entry consumes waited in the queue of its session
 

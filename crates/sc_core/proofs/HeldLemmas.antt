@@ -9,10 +9,11 @@ use Rattle.std.proofs.lemmas.List.Elements.{All-push}
 use Rattle.std.proofs.lemmas.Option.{slice_get-map}
 use Rattle.std.specs.Option.{option_map_or}
 use Rattle.sc_core.specs.Holding.{IsHeld, host_of, rooms_of}
-use Rattle.sc_core.specs.HostStates.{ArePlanned, CanInstall, CanMake, HasRoomIn, HaveRoomIn, IsPlanned, IsSound}
-use Rattle.sc_core.specs.Installing.{CanApplyAll, HasRoom, HaveRoom, HaveTargets, charts_after, installed}
+use Rattle.sc_core.specs.HostStates.{ArePlanned, CanInstall, CanMake, HasRoomIn, HaveRoomIn, HaveRoomOfIn, IsPlanned, IsSound}
+use Rattle.sc_core.specs.Installing.{AreRoomy, CanApplyAll, HasRoom, HaveRoom, HaveRoomOf, HaveTargets, charts_after, installed, rooms_ahead}
 use Rattle.sc_core.specs.declared.change.Change.{Change}
-use Rattle.sc_core.specs.declared.change.Change.TheVariants.{Count, Advance, Install, Start, PutState, TakeFront, Queue, Tell, Flag, End, Delay, Undo, Fire, Lose}
+use Rattle.sc_core.specs.declared.change.Change.TheVariants.{Count, Advance, Install, Start, Bear, PutState, TakeFront, Queue, Tell, Flag, CutOff, DropInvoke, End, Delay, Undo, Fire, Lose}
+use Rattle.sc_core.proofs.RoomLemmas.{room_is}
 use Rattle.sc_core.proofs.SetLemmas.{map_long}
 use Rattle.sc_core.specs.declared.session.Session.{Session}
 use Rattle.sc_core.specs.Hosts.{empty_host}
@@ -39,34 +40,34 @@ held_empty chart_of h is agrees charts =
       };
     }
 
-room_is : (f : Session → ℕ) (items : List Session) (place : ℕ)
-    → unwrap_or (slice_get (map f items) place) 0 ≡ option_map_or f (slice_get items place) 0
-room_is f items place = ap (λ o. unwrap_or o 0) (slice_get-map f items place) ∙ by (slice_get items place)
-  where
-    by : (o : Option Session) → unwrap_or (option_map f o) 0 ≡ option_map_or f o 0
-    by None = refl
-    by (Some s) = refl
+has_room : {P : Type 0} (n : ℕ) (h : Body P) (rooms : List ℕ) (c : Change P) → HasRoomIn n (rooms_of h) rooms c
+    → HasRoom n h rooms c
+has_room n h rooms Count r = tt
+has_room n h rooms (Advance clock) r = tt
+has_room n h rooms (Install name chart) r = r
+has_room n h rooms (Start name session) r = r
+has_room n h rooms (Bear invoker name session) r = (r.0, subst (λ m. n ≤ m) (room_is (λ (s : Session). s.children.spare) h.sessions.items invoker) r.1)
+has_room n h rooms (PutState place state) r = tt
+has_room n h rooms (TakeFront place) r = tt
+has_room n h rooms (Queue place e) r = r
+has_room n h rooms (Tell place e) r = subst (λ m. n ≤ m) (room_is (λ (s : Session). s.failures.spare) h.sessions.items place) r
+has_room n h rooms (Flag place) r = tt
+has_room n h rooms (CutOff place) r = tt
+has_room n h rooms (DropInvoke place child) r = tt
+has_room n h rooms (End place) r = tt
+has_room n h rooms (Delay send) r = r
+has_room n h rooms (Undo session id) r = tt
+has_room n h rooms (Fire place id) r = subst (λ m. n ≤ m) (room_is (λ (s : Session). s.queued.spare) h.sessions.items place) r
+has_room n h rooms Lose r = tt
 
-has_room : {P : Type 0} (n : ℕ) (h : Body P) (c : Change P) → HasRoomIn n (rooms_of h) c → HasRoom n h c
-has_room n h Count r = tt
-has_room n h (Advance clock) r = tt
-has_room n h (Install name chart) r = r
-has_room n h (Start name session) r = r
-has_room n h (PutState place state) r = tt
-has_room n h (TakeFront place) r = tt
-has_room n h (Queue place e) r = subst (λ m. n ≤ m) (room_is (λ (s : Session). s.queued.spare) h.sessions.items place) r
-has_room n h (Tell place e) r = subst (λ m. n ≤ m) (room_is (λ (s : Session). s.failures.spare) h.sessions.items place) r
-has_room n h (Flag place) r = tt
-has_room n h (End place) r = tt
-has_room n h (Delay send) r = r
-has_room n h (Undo session id) r = tt
-has_room n h (Fire place id) r = subst (λ m. n ≤ m) (room_is (λ (s : Session). s.queued.spare) h.sessions.items place) r
-has_room n h Lose r = tt
+have_room_of : {P : Type 0} (n : ℕ) (h : Body P) (rooms : List ℕ) (cs : List (Change P))
+    → HaveRoomOfIn n (rooms_of h) rooms cs → HaveRoomOf n h rooms cs
+have_room_of n h rooms [] r = tt
+have_room_of n h rooms (c ∷ cs) r = (has_room n h rooms c r.0, have_room_of n h rooms cs r.1)
 
 -- the room that contracts speak of is that of the body
 pub have_room : {P : Type 0} (n : ℕ) (h : Body P) (cs : List (Change P)) → HaveRoomIn n (rooms_of h) cs → HaveRoom n h cs
-have_room n h [] r = tt
-have_room n h (c ∷ cs) r = (has_room n h c r.0, have_room n h cs r.1)
+have_room n h cs r = have_room_of n h (rooms_ahead h cs) cs r
 
 -- the charts that changes install have their plans
 pub planned_after : {P : Type 0} (chart_of : P → Chart) (cs : List (Change P)) (charts : List (InstalledChart P))
@@ -77,11 +78,14 @@ planned_after chart_of (Install name chart ∷ cs) charts all are =
 planned_after chart_of (Count ∷ cs) charts all are = planned_after chart_of cs charts all are
 planned_after chart_of (Advance clock ∷ cs) charts all are = planned_after chart_of cs charts all are
 planned_after chart_of (Start name session ∷ cs) charts all are = planned_after chart_of cs charts all are
+planned_after chart_of (Bear invoker name session ∷ cs) charts all are = planned_after chart_of cs charts all are
 planned_after chart_of (PutState place state ∷ cs) charts all are = planned_after chart_of cs charts all are
 planned_after chart_of (TakeFront place ∷ cs) charts all are = planned_after chart_of cs charts all are
 planned_after chart_of (Queue place e ∷ cs) charts all are = planned_after chart_of cs charts all are
 planned_after chart_of (Tell place e ∷ cs) charts all are = planned_after chart_of cs charts all are
 planned_after chart_of (Flag place ∷ cs) charts all are = planned_after chart_of cs charts all are
+planned_after chart_of (CutOff place ∷ cs) charts all are = planned_after chart_of cs charts all are
+planned_after chart_of (DropInvoke place child ∷ cs) charts all are = planned_after chart_of cs charts all are
 planned_after chart_of (End place ∷ cs) charts all are = planned_after chart_of cs charts all are
 planned_after chart_of (Delay send ∷ cs) charts all are = planned_after chart_of cs charts all are
 planned_after chart_of (Undo session id ∷ cs) charts all are = planned_after chart_of cs charts all are
@@ -98,25 +102,33 @@ held_after chart_of h k cs held can agrees is charts = record {
   sound = subst IsSound (sym is) can.sound;
 }
 
-room_of : {P : Type 0} (n : ℕ) (h : Body P) (c : Change P) → HasRoom n h c → HasRoomIn n (rooms_of h) c
-room_of n h Count r = tt
-room_of n h (Advance clock) r = tt
-room_of n h (Install name chart) r = r
-room_of n h (Start name session) r = r
-room_of n h (PutState place state) r = tt
-room_of n h (TakeFront place) r = tt
-room_of n h (Queue place e) r = subst (λ m. n ≤ m) (sym (room_is (λ (s : Session). s.queued.spare) h.sessions.items place)) r
-room_of n h (Tell place e) r = subst (λ m. n ≤ m) (sym (room_is (λ (s : Session). s.failures.spare) h.sessions.items place)) r
-room_of n h (Flag place) r = tt
-room_of n h (End place) r = tt
-room_of n h (Delay send) r = r
-room_of n h (Undo session id) r = tt
-room_of n h (Fire place id) r = subst (λ m. n ≤ m) (sym (room_is (λ (s : Session). s.queued.spare) h.sessions.items place)) r
-room_of n h Lose r = tt
+room_of : {P : Type 0} (n : ℕ) (h : Body P) (rooms : List ℕ) (c : Change P) → HasRoom n h rooms c
+    → HasRoomIn n (rooms_of h) rooms c
+room_of n h rooms Count r = tt
+room_of n h rooms (Advance clock) r = tt
+room_of n h rooms (Install name chart) r = r
+room_of n h rooms (Start name session) r = r
+room_of n h rooms (Bear invoker name session) r = (r.0, subst (λ m. n ≤ m) (sym (room_is (λ (s : Session). s.children.spare) h.sessions.items invoker)) r.1)
+room_of n h rooms (PutState place state) r = tt
+room_of n h rooms (TakeFront place) r = tt
+room_of n h rooms (Queue place e) r = r
+room_of n h rooms (Tell place e) r = subst (λ m. n ≤ m) (sym (room_is (λ (s : Session). s.failures.spare) h.sessions.items place)) r
+room_of n h rooms (Flag place) r = tt
+room_of n h rooms (CutOff place) r = tt
+room_of n h rooms (DropInvoke place child) r = tt
+room_of n h rooms (End place) r = tt
+room_of n h rooms (Delay send) r = r
+room_of n h rooms (Undo session id) r = tt
+room_of n h rooms (Fire place id) r = subst (λ m. n ≤ m) (sym (room_is (λ (s : Session). s.queued.spare) h.sessions.items place)) r
+room_of n h rooms Lose r = tt
+
+rooms_of_in : {P : Type 0} (n : ℕ) (h : Body P) (rooms : List ℕ) (cs : List (Change P)) → HaveRoomOf n h rooms cs
+    → HaveRoomOfIn n (rooms_of h) rooms cs
+rooms_of_in n h rooms [] r = tt
+rooms_of_in n h rooms (c ∷ cs) r = (room_of n h rooms c r.0, rooms_of_in n h rooms cs r.1)
 
 rooms_in : {P : Type 0} (n : ℕ) (h : Body P) (cs : List (Change P)) → HaveRoom n h cs → HaveRoomIn n (rooms_of h) cs
-rooms_in n h [] r = tt
-rooms_in n h (c ∷ cs) r = (room_of n h c r.0, rooms_in n h cs r.1)
+rooms_in n h cs r = rooms_of_in n h (rooms_ahead h cs) cs r
 
 -- a body with more room is held
 pub held_kept : {P : Type 0} (chart_of : P → Chart) (h k : Body P) → IsHeld chart_of h → Keeps h k
@@ -131,6 +143,11 @@ held_kept chart_of h k held keeps charts = record {
 pub targets_in : {P : Type 0} (h : Body P) (cs : List (Change P)) → HaveTargets (length (image h).sessions) cs
     → HaveTargets (length h.sessions.items) cs
 targets_in h cs t = subst (λ n. HaveTargets n cs) (map_long session_image h.sessions.items) t
+
+-- and so are those of the sessions that are started
+pub roomy_in : {P : Type 0} (h : Body P) (cs : List (Change P)) → AreRoomy (length (image h).sessions) cs
+    → AreRoomy (length h.sessions.items) cs
+roomy_in h cs t = subst (λ n. AreRoomy n cs) (map_long session_image h.sessions.items) t
 
 -- changes for which room was made can be installed
 pub can_install : {P : Type 0} (chart_of : P → Chart) (h k : Body P) (cs : List (Change P)) → Keeps h k

@@ -1,5 +1,5 @@
 -- Each session has a name of its own, so that the session which is ready is the one that its name finds.
-use Rattle.std.proofs.Common.{◌≡◌, ℕ, zero, suc, Bool, true, false, ◌||◌, cond, Option, Some, None, is_some, nat_lt, List, [], ◌∷◌, ◌++◌, length, find, slice_get, slice_set, position, option_map, option_and_then, lt-ltb, refl, sym, ap, subst, ◌∙◌}
+use Rattle.std.proofs.Common.{◌≡◌, ℕ, zero, suc, Bool, true, false, ◌||◌, cond, Option, Some, None, is_some, nat_lt, List, [], ◌∷◌, ◌++◌, length, find, slice_get, slice_set, position, option_map, option_and_then, lt-ltb, refl, sym, ap, subst, ◌∙◌, map}
 use Rattle.std.specs.List.{list_any, position_or_len}
 use Rattle.std.specs.Str.{bytes_eq}
 use Rattle.std.proofs.lemmas.List.Folds.{find_at, list_any-append}
@@ -16,11 +16,12 @@ use Rattle.sc_types.specs.declared.session.Phase.TheVariants as phase
 use Rattle.sc_law.specs.Turn.{turn}
 use Rattle.sc_core.specs.Commands.{Answer, answer, fresh_session, put_in, step, step_cue, step_in}
 use Rattle.sc_core.specs.Cues.{cue_in, cue_of, is_ready, name_of, ready}
-use Rattle.sc_core.specs.Deliveries.{deliver_all, end_at}
+use Rattle.sc_core.specs.Deliveries.{deliver_all}
+use Rattle.sc_core.specs.Endings.{end_at}
 use Rattle.sc_core.specs.Hosts.{chart_named, is_session_named, session_named, with_session}
 use Rattle.sc_core.proofs.ChangeLemmas.{Change, cancels, installs, posts, refuses, starts, ticks, turns}
 use Rattle.sc_core.proofs.FoundLemmas.{is_at}
-use Rattle.sc_core.proofs.MoveLemmas.{Gift, Move, Moves, all_fire, all_move, due_in, end_moves, ends, goes, puts, queues, still, ticked}
+use Rattle.sc_core.proofs.MoveLemmas.{Gift, Move, Moves, all_fire, all_move, due_in, end_moves, bears, ends, goes, parts, puts, queues, still, ticked}
 use Rattle.sc_core.proofs.TurnLemmas.{turn-of}
 
 -- each session has a name of its own
@@ -171,11 +172,31 @@ none_named n xs h = by_test (list_any (is_session_named n) xs) refl where
 
 -- what moves keep
 
+any_parted : (f : SessionImage → SessionImage) → ((s : SessionImage) → (f s).state.session ≡ s.state.session)
+    → (name : List ℕ) (xs : List SessionImage)
+    → list_any (is_session_named name) (map f xs) ≡ list_any (is_session_named name) xs
+any_parted f named name [] = refl
+any_parted f named name (x ∷ xs) =
+    ap (λ n. bytes_eq n name || list_any (is_session_named name) (map f xs)) (named x)
+    ∙ ap (λ b. bytes_eq x.state.session name || b) (any_parted f named name xs)
+
+-- so do sessions that keep their names
+distinct_parted : (f : SessionImage → SessionImage) → ((s : SessionImage) → (f s).state.session ≡ s.state.session)
+    → (xs : List SessionImage) → AreDistinct xs → AreDistinct (map f xs)
+distinct_parted f named [] h = tt
+distinct_parted f named (x ∷ xs) h =
+    (ap (λ n. list_any (is_session_named n) (map f xs)) (named x) ∙ any_parted f named x.state.session xs ∙ h.0,
+    distinct_parted f named xs h.1)
+
 -- a move leaves each session a name of its own
 pub distinct_moved : (g h : HostImage) (given : List Gift) → Move g h given → AreDistinct g.sessions → AreDistinct h.sessions
 distinct_moved g h given (still sessions events charts commands is) distinct = subst AreDistinct (sym sessions) distinct
 distinct_moved g h given (puts place s put there named kept fits sessions events charts commands is) distinct =
     subst AreDistinct (sym sessions) (distinct_set g.sessions place s put there named distinct)
+distinct_moved g h given (bears s queued new fits sessions events charts commands is) distinct =
+    subst AreDistinct (sym sessions) (distinct_push g.sessions s (none_named s.state.session g.sessions new) distinct)
+distinct_moved g h given (parts f part sessions events charts commands is) distinct =
+    subst AreDistinct (sym sessions) (distinct_parted f (λ s. (part s).named) g.sessions distinct)
 distinct_moved g h given (queues place s e there is gift) distinct =
     subst (λ (x : HostImage). AreDistinct x.sessions) (sym is) (distinct_set g.sessions place s _ there refl distinct)
 
@@ -212,7 +233,7 @@ distinct_kept g c a (turns session place s cue command found has is) h =
     let delivered = deliver_all (with_session g place put) place t.effects in
     let all = distinct_moves (with_session g place put) delivered.host _ (all_move (with_session g place put) place t.effects) started in
     subst (λ (x : Answer). AreDistinct x.host.sessions) (sym is)
-    (distinct_moved delivered.host (end_at delivered.host place) [] (end_moves delivered.host place) all)
+    (distinct_moves delivered.host (end_at delivered.host place).host _ (end_moves delivered.host place) all)
 
 -- the answer to a step of a session with a cue
 

@@ -133,6 +133,7 @@ pub prepared_makes : {P : Type 0} (chart_of : P → Chart) (g : HostImage) (c : 
 prepared_makes chart_of g c p sound prepared plans fits few = record {
   can = prepared.can;
   targets = prepared.targets;
+  roomy = prepared.roomy;
   plans = plans;
   sound = subst IsSound (sym prepared.host)
       (sound_answer g c sound fits (omega (arith, few, ap length prepared.sent)));

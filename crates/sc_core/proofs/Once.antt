@@ -1,5 +1,5 @@
 -- Each event is consumed at most once: what waits and what was consumed of one number is at most one.
-use Rattle.std.proofs.Common.{◌≡◌, ℕ, ◌+◌, ◌==◌, ◌<◌, ◌≤◌, cond, Bool, true, false, Some, None, List, [], ◌∷◌, ◌++◌, drop, sum_by, count_by, slice_get, slice_set, refl, sym, ap, subst, ◌∙◌, arith}
+use Rattle.std.proofs.Common.{map, ◌≡◌, ℕ, ◌+◌, ◌==◌, ◌<◌, ◌≤◌, cond, Bool, true, false, Some, None, List, [], ◌∷◌, ◌++◌, drop, sum_by, count_by, slice_get, slice_set, refl, sym, ap, subst, ◌∙◌, arith}
 use Rattle.std.proofs.lemmas.Bool.Decides.{nat_tests}
 use Rattle.std.proofs.lemmas.List.Sums.{sum_by-set, sum_by-cons, sum_by_push}
 use Rattle.std.proofs.lemmas.Option.{slice_get_within, get_or_from_slice_get}
@@ -18,12 +18,13 @@ use Rattle.sc_types.specs.declared.session.Phase.TheVariants as phase
 use Rattle.sc_law.specs.Turn.{TurnResult, turn}
 use Rattle.sc_core.specs.Commands.{Answer, answer, posted_event, put_in}
 use Rattle.sc_core.specs.Cues.{cue_in, cue_of, name_of, outer_cue, queue_left, queued_cue}
-use Rattle.sc_core.specs.Deliveries.{deliver_all, end_at, queue}
+use Rattle.sc_core.specs.Deliveries.{deliver_all, queue}
+use Rattle.sc_core.specs.Endings.{end_at}
 use Rattle.sc_core.specs.Histories.{Tells, IsLegal, consumed_in, consumed, is_number, consumes}
 use Rattle.sc_core.specs.Hosts.{chart_named, empty_host, with_session}
 use Rattle.sc_core.proofs.ChangeLemmas.{Change, cancels, change_of, installs, posts, refuses, starts, ticks, turns, with_chart, with_fresh}
 use Rattle.sc_core.proofs.FoundLemmas.{is_at}
-use Rattle.sc_core.proofs.MoveLemmas.{Gift, Keeps, Move, Moves, all_fire, all_move, due_in, emptied, end_moves, ends, goes, puts, queues, same, still, ticked}
+use Rattle.sc_core.proofs.MoveLemmas.{Gift, IsParted, Keeps, Move, Moves, all_fire, all_move, bears, due_in, emptied, end_moves, ends, goes, parts, puts, queues, same, still, ticked}
 
 -- a sum over a list of which one item was replaced
 pub sum_replaced : {X : Type 0} (f : X → ℕ) (xs : List X) (i : ℕ) (x y : X) → slice_get xs i ≡ Some x → sum_by f (slice_set xs i y) + f x ≡ sum_by f xs + f y
@@ -85,6 +86,15 @@ put_few n done more g h place s put there fewer_queued sessions events few =
     let waits : waiting n h ≡ sum_by f (slice_set g.sessions place put) = ap (sum_by f) sessions in
     fewer n done more g h events (omega (arith, total, waits, fewer_queued)) few
 
+waits_parted : (n : ℕ) (g : HostImage) (f : SessionImage → SessionImage) → ((s : SessionImage) → IsParted g s (f s))
+    → (xs : List SessionImage) → sum_by (λ (x : SessionImage). in_queue n x.queued) (map f xs)
+    ≡ sum_by (λ (x : SessionImage). in_queue n x.queued) xs
+waits_parted n g f part [] = refl
+waits_parted n g f part (x ∷ xs) =
+    let q = λ (s : SessionImage). in_queue n s.queued in
+    sum_by-cons q (f x) (map f xs) ∙ ap (λ k. in_queue n k + sum_by q (map f xs)) (part x).queued
+    ∙ ap (λ k. in_queue n x.queued + k) (waits_parted n g f part xs) ∙ sym (sum_by-cons q x xs)
+
 -- a move keeps each number few
 pub few_moved : (n done : ℕ) (g h : HostImage) (given : List Gift) → Move g h given → IsFew n done g → IsFew n done h
 few_moved n done g h given (still sessions events charts commands is) few =
@@ -93,6 +103,19 @@ few_moved n done g h given (still sessions events charts commands is) few =
 few_moved n done g h given (puts place s put there named kept fits sessions events charts commands is) few =
     let moved = put_few n done 0 g h place s put there (omega (arith, kept_fewer n s.queued put.queued kept)) sessions events few in
     record { once = omega (arith, moved.once); none = λ below. omega (arith, moved.none below) }
+few_moved n done g h given (bears s queued new fits sessions events charts commands is) few =
+    let f = λ (x : SessionImage). in_queue n x.queued in
+    let total = sum_by_push f g.sessions s in
+    let none : in_queue n s.queued ≡ 0 = ap (in_queue n) queued in
+    let waits : waiting n h ≡ sum_by f (g.sessions ++ s ∷ []) = ap (sum_by f) sessions in
+    record {
+      once = omega (arith, few.once, waits, total, none);
+      none = λ below. omega (arith, few.none (omega (arith, events, below)), waits, total, none);
+    }
+few_moved n done g h given (parts f part sessions events charts commands is) few =
+    let waits : waiting n h ≡ waiting n g = ap (sum_by (λ (x : SessionImage). in_queue n x.queued)) sessions
+    ∙ waits_parted n g f part g.sessions in
+    record { once = omega (arith, few.once, waits); none = λ below. omega (arith, few.none (omega (arith, events, below)), waits) }
 few_moved n done g h given (queues place s e there is gift) few =
     subst (IsFew n done) (sym is) (queue_few n done g place s e there few)
 
@@ -168,13 +191,13 @@ taken_cue n session (cue.External e) = refl
 -- the host that a turn leaves has the numbers few, with the cue's as taken
 step_few : (n done : ℕ) (g : HostImage) (place : ℕ) (s : SessionImage) (c : Cue) (t : TurnResult)
     → slice_get g.sessions place ≡ Some s → cue_of s ≡ Some c → IsFew n done g
-    → IsFew n (done + cue_number n c) (end_at (deliver_all (with_session g place (put_in s c t)) place t.effects).host place)
+    → IsFew n (done + cue_number n c) (end_at (deliver_all (with_session g place (put_in s c t)) place t.effects).host place).host
 step_few n done g place s c t there has few =
     let put = with_session g place (put_in s c t) in
     let delivered = deliver_all put place t.effects in
     let started = put_few n done (cue_number n c) g put place s (put_in s c t) there (left_fewer n s c has) refl refl few in
     let all = few_moves n (done + cue_number n c) put delivered.host _ (all_move put place t.effects) started in
-    few_moved n (done + cue_number n c) delivered.host (end_at delivered.host place) [] (end_moves delivered.host place) all
+    few_moves n (done + cue_number n c) delivered.host (end_at delivered.host place).host _ (end_moves delivered.host place) all
 
 -- the same host with another count of commands has the numbers as few
 counted_few : (n done : ℕ) (g : HostImage) (count : ℕ) → IsFew n done g → IsFew n done (record g { commands = count })

@@ -7,10 +7,10 @@ use Rattle.sc_types.specs.declared.command.Reply.{Reply}
 use Rattle.sc_types.specs.declared.host.HostImage.{HostImage}
 use Rattle.sc_core.specs.Commands.{accepted}
 use Rattle.sc_core.specs.Hosts.{chart_place, has_chart, is_chart_named}
-use Rattle.sc_core.specs.Installing.{CanApply, CanApplyAll, HasTarget, HaveTargets, apply, installed}
+use Rattle.sc_core.specs.Installing.{AreRoomy, CanApply, CanApplyAll, HasTarget, HaveTargets, IsRoomy, apply, installed, new_rooms}
 use Rattle.sc_core.specs.Preparing.{Prepares}
 use Rattle.sc_core.specs.declared.change.Change.{Change}
-use Rattle.sc_core.specs.declared.change.Change.TheVariants.{Count}
+use Rattle.sc_core.specs.declared.change.Change.TheVariants.{Count, Advance, Install, Start, Bear, PutState, TakeFront, Queue, Tell, Flag, CutOff, DropInvoke, End, Delay, Undo, Fire, Lose}
 use Rattle.sc_core.specs.declared.prepared.Prepared.{Prepared}
 
 same_less : (m n : ℕ) → nat_lt (1 + m) (suc n) ≡ nat_lt m n
@@ -33,6 +33,27 @@ some_position {X = X} p xs = some (nat_lt (position_or_len p xs) (length xs)) �
         by true h = grind (arith, nat_tests)
         by false h = same_less (position_or_len p ys) (length ys) ∙ h
 
+-- a queue that gets an event is there
+pub roomy_of : {P : Type 0} (g : HostImage) (count : ℕ) (rooms : List ℕ) (c : Change P) → CanApply g c
+    → IsRoomy (length g.sessions) count rooms c
+roomy_of g count rooms Count can = tt
+roomy_of g count rooms (Advance clock) can = tt
+roomy_of g count rooms (Install name chart) can = tt
+roomy_of g count rooms (Start name session) can = tt
+roomy_of g count rooms (Bear invoker name session) can = tt
+roomy_of g count rooms (PutState place state) can = tt
+roomy_of g count rooms (TakeFront place) can = tt
+roomy_of g count rooms (Queue place e) can = λ past. absurd (omega (arith, can.0, past))
+roomy_of g count rooms (Tell place e) can = tt
+roomy_of g count rooms (Flag place) can = tt
+roomy_of g count rooms (CutOff place) can = tt
+roomy_of g count rooms (DropInvoke place child) can = tt
+roomy_of g count rooms (End place) can = tt
+roomy_of g count rooms (Delay send) can = tt
+roomy_of g count rooms (Undo session id) can = tt
+roomy_of g count rooms (Fire place id) can = tt
+roomy_of g count rooms Lose can = tt
+
 -- one change, and the command is counted
 pub accepts : {P : Type 0} (g h : HostImage) (c : Change P) (reply : Reply) (p : Prepared P)
     → p.changes ≡ c ∷ Count ∷ [] → p.reply ≡ reply → p.logs ≡ [] → p.sent ≡ [] → CanApply g c
@@ -45,6 +66,7 @@ accepts g h c reply p changes replied logs sent can target is less = record {
   sent = sent;
   can = subst (CanApplyAll g) (sym changes) (can, (subst (λ (k : HostImage). k.commands + 1 < 2 ^ 64) (sym is) less, tt));
   targets = subst (HaveTargets (length g.sessions)) (sym changes) (target, (tt, tt));
+  roomy = subst (AreRoomy (length g.sessions)) (sym changes) (roomy_of g 2 (new_rooms (c ∷ Count ∷ [])) c can, (tt, tt));
 }
 
 -- a name of no chart has no place

@@ -1,17 +1,22 @@
 -- Room is made in the body.
-use Rattle.std.proofs.Common.{OnOk, Result, Ok, Err, None, ◌≡◌, ℕ, ◌+◌, ◌≤◌, zero, suc, Some, List, [], ◌∷◌, length, drop, map, get_or, slice_get, slice_set, refl, arith, ap, subst, sym, ◌∙◌}
+use Rattle.std.proofs.Common.{OnOk, Result, Ok, Err, None, ◌≡◌, ℕ, ◌+◌, ◌≤◌, zero, suc, Some, List, [], ◌∷◌, length, drop, map, get_or, slice_get, slice_set, refl, arith, ap, subst, sym, ◌∙◌, ◌-◌, ◌<◌, ◌++◌, nat_lt, Bool, true, false, unwrap_or, option_map, Option}
 use Rattle.std.proofs.Math.Seq.{map-set_same}
-use Rattle.std.proofs.lemmas.Option.{get_or_from_slice_get}
+use Rattle.std.proofs.lemmas.Option.{get_or_from_slice_get, slice_get-map}
+use Rattle.std.specs.List.{AllByRecursion}
 use Rattle.std.specs.Option.{option_map_or}
+use Rattle.std.proofs.lemmas.Bool.Decides.{nat_tests}
 use Rattle.sc_rooms.specs.Rooms.{PlacesOf}
+use Rattle.sc_types.specs.declared.event.Event.{Event}
 use Rattle.sc_types.specs.declared.host.HostImage.{HostImage}
+use Rattle.sc_types.specs.declared.host.InvokerImage.{InvokerImage}
+use Rattle.sc_core.proofs.FamilyLemmas.{family_same}
 use Rattle.sc_core.proofs.SetLemmas.{map_long}
 use Rattle.sc_types.specs.declared.host.SessionImage.{SessionImage}
-use Rattle.sc_core.specs.Bodies.{Agrees, Keeps, cued, image, session_image}
-use Rattle.sc_core.specs.Installing.{HasRoom, HasTarget, HaveRoom, HaveTargets}
+use Rattle.sc_core.specs.Bodies.{Agrees, Keeps, cued, image, inviter, queue_room, session_image}
+use Rattle.sc_core.specs.Installing.{AreRoomy, HasRoom, HasTarget, HaveRoom, HaveRoomOf, HaveTargets, IsMadeFor, IsRoomy, new_rooms, queue_rooms, room_at, rooms_ahead}
 use Rattle.sc_core.specs.declared.body.Body.{Body}
 use Rattle.sc_core.specs.declared.change.Change.{Change}
-use Rattle.sc_core.specs.declared.change.Change.TheVariants.{Count, Advance, Install, Start, PutState, TakeFront, Queue, Tell, Flag, End, Delay, Undo, Fire, Lose}
+use Rattle.sc_core.specs.declared.change.Change.TheVariants.{Count, Advance, Install, Start, Bear, PutState, TakeFront, Queue, Tell, Flag, CutOff, DropInvoke, End, Delay, Undo, Fire, Lose}
 use Rattle.sc_core.specs.declared.session.Session.{Session}
 
 more_set : (f : Session → ℕ) (items : List Session) (place : ℕ) (s w : Session) → slice_get items place ≡ Some s
@@ -33,8 +38,9 @@ made_there f (x ∷ xs) (suc place) count s w at less = made_there f xs place co
 -- a session with more room is the same session
 pub keeps_set : {P : Type 0} (h : Body P) (place : ℕ) (s w : Session) → Agrees h → slice_get h.sessions.items place ≡ Some s
     → session_image w ≡ session_image s → s.queued.spare ≤ w.queued.spare → s.failures.spare ≤ w.failures.spare
+    → w.children.items ≡ s.children.items → s.children.spare ≤ w.children.spare
     → Keeps h (record h { sessions = record h.sessions { items = slice_set h.sessions.items place w } })
-keeps_set h place s w agrees at is queued failures =
+keeps_set h place s w agrees at is queued failures listed children =
     let items = h.sessions.items in
     let there : session_image w ≡ session_image (get_or items place s)
     = is ∙ ap session_image (sym (get_or_from_slice_get items place s s at)) in
@@ -47,11 +53,17 @@ keeps_set h place s w agrees at is queued failures =
       ready = omega arith;
       queued = more_set (λ (x : Session). x.queued.spare) items place s w at queued;
       failures = more_set (λ (x : Session). x.failures.spare) items place s w at failures;
+      children = more_set (λ (x : Session). x.children.spare) items place s w at children;
       agrees = record {
         charts = agrees.charts;
         sessions = agrees.sessions ∙ sym (map-set_same (λ (x : Session). x.state.session) items place w s
             (ap (λ (x : SessionImage). x.state.session) there));
         ready = agrees.ready ∙ ap (cued 0) (sym images);
+        family = family_same h.sessions.names (map inviter items) _ (map (λ (x : Session). x.children.items) items) _
+            (map-set_same inviter items place w s
+            (ap (λ (x : SessionImage). option_map (λ (i : InvokerImage). i.session) x.invoker) there))
+            (map-set_same (λ (x : Session). x.children.items) items place w s (listed
+            ∙ ap (λ (x : Session). x.children.items) (sym (get_or_from_slice_get items place s s at)))) agrees.family;
       };
       image = ap (λ ss. record (image h) { sessions = ss }) images;
     }
@@ -64,6 +76,7 @@ keeps_same h agrees = record {
   ready = omega arith;
   queued = λ place. omega arith;
   failures = λ place. omega arith;
+  children = λ place. omega arith;
   agrees = agrees;
   image = refl;
 }
@@ -76,29 +89,40 @@ keeps_on h k m first second = record {
   ready = omega (arith, first.ready, second.ready);
   queued = λ place. let a = first.queued place in let b = second.queued place in omega (arith, a, b);
   failures = λ place. let a = first.failures place in let b = second.failures place in omega (arith, a, b);
+  children = λ place. let a = first.children place in let b = second.children place in omega (arith, a, b);
   agrees = second.agrees;
   image = second.image ∙ first.image;
 }
 
-room_kept : {P : Type 0} (n : ℕ) (h k : Body P) (c : Change P) → Keeps h k → HasRoom n h c → HasRoom n k c
-room_kept n h k Count l r = tt
-room_kept n h k (Advance clock) l r = tt
-room_kept n h k (Install name chart) l r = omega (arith, l.charts, r)
-room_kept n h k (Start name session) l r = omega (arith, l.sessions, r)
-room_kept n h k (PutState place state) l r = tt
-room_kept n h k (TakeFront place) l r = tt
-room_kept n h k (Queue place e) l r = let at = l.queued place in omega (arith, at, r)
-room_kept n h k (Tell place e) l r = let at = l.failures place in omega (arith, at, r)
-room_kept n h k (Flag place) l r = tt
-room_kept n h k (End place) l r = tt
-room_kept n h k (Delay send) l r = omega (arith, l.timers, r)
-room_kept n h k (Undo session id) l r = tt
-room_kept n h k (Fire place id) l r = let at = l.queued place in omega (arith, at, r)
-room_kept n h k Lose l r = tt
+same_length : {P : Type 0} (h k : Body P) → Keeps h k → length k.sessions.items ≡ length h.sessions.items
+same_length h k keeps =
+    let long = ap (λ (g : HostImage). length g.sessions) keeps.image in
+    omega (arith, long, map_long session_image h.sessions.items, map_long session_image k.sessions.items)
 
-pub rooms_kept : {P : Type 0} (n : ℕ) (h k : Body P) (cs : List (Change P)) → Keeps h k → HaveRoom n h cs → HaveRoom n k cs
-rooms_kept n h k [] l r = tt
-rooms_kept n h k (c ∷ cs) l r = (room_kept n h k c l r.0, rooms_kept n h k cs l r.1)
+-- what room was made of the body's own stays
+made_kept : {P : Type 0} (n : ℕ) (h k : Body P) (c : Change P) → Keeps h k → IsMadeFor n h c → IsMadeFor n k c
+made_kept n h k Count l r = tt
+made_kept n h k (Advance clock) l r = tt
+made_kept n h k (Install name chart) l r = omega (arith, l.charts, r)
+made_kept n h k (Start name session) l r = omega (arith, l.sessions, r)
+made_kept n h k (Bear invoker name session) l r = let at = l.children invoker in (omega (arith, l.sessions, r.0), omega (arith, at, r.1))
+made_kept n h k (PutState place state) l r = tt
+made_kept n h k (TakeFront place) l r = tt
+made_kept n h k (Queue place e) l r = λ within.
+    let at = l.queued place in let made = r (omega (arith, within, same_length h k l)) in omega (arith, at, made)
+made_kept n h k (Tell place e) l r = let at = l.failures place in omega (arith, at, r)
+made_kept n h k (Flag place) l r = tt
+made_kept n h k (CutOff place) l r = tt
+made_kept n h k (DropInvoke place child) l r = tt
+made_kept n h k (End place) l r = tt
+made_kept n h k (Delay send) l r = omega (arith, l.timers, r)
+made_kept n h k (Undo session id) l r = tt
+made_kept n h k (Fire place id) l r = let at = l.queued place in omega (arith, at, r)
+made_kept n h k Lose l r = tt
+
+abbrev AreMadeFor : {P : Type 0} → ℕ → Body P → List (Change P) → Type 0
+AreMadeFor n h [] = Unit {0}
+AreMadeFor n h (c ∷ cs) = IsMadeFor n h c × AreMadeFor n h cs
 
 pub on_ok : {T E : Type 0} (r : Result T E) (A B : Type 0) → OnOk r A → (A → B) → OnOk r B
 on_ok (Ok x) A B a f = f a
@@ -110,7 +134,7 @@ pub record MakesRoom {P : Type 0} (whole : List (Change P)) (n place : ℕ) (h k
   pub keeps : Keeps h k
   pub charts : k.charts.items ≡ h.charts.items
   pub ready : n ≤ k.ready.spare
-  pub rest : (m : Body P) → Keeps k m → HaveRoom n m (drop place whole) → HaveRoom n m whole
+  pub rest : (m : Body P) → Keeps k m → AreMadeFor n m (drop place whole) → AreMadeFor n m whole
   pub targets : HaveTargets (length h.sessions.items) (drop place whole)
 
 pub drop_at : {X : Type 0} (xs : List X) (i : ℕ) (x : X) → slice_get xs i ≡ Some x → drop i xs ≡ x ∷ drop (i + 1) xs
@@ -126,11 +150,6 @@ drop_past [] (suc i) at = refl
 drop_past (y ∷ ys) zero at = absurd cc
 drop_past (y ∷ ys) (suc i) at = drop_past ys i at
 
-same_length : {P : Type 0} (h k : Body P) → Keeps h k → length k.sessions.items ≡ length h.sessions.items
-same_length h k keeps =
-    let long = ap (λ (g : HostImage). length g.sessions) keeps.image in
-    omega (arith, long, map_long session_image h.sessions.items, map_long session_image k.sessions.items)
-
 pub target_there : {P : Type 0} (whole : List (Change P)) (n place : ℕ) (h k : Body P) (c : Change P)
     → slice_get whole place ≡ Some c → MakesRoom whole n place h k → HasTarget (length k.sessions.items) c
 target_there whole n place h k c at l =
@@ -139,7 +158,7 @@ target_there whole n place h k c at l =
 
 pub more_room : {P : Type 0} (whole : List (Change P)) (n place : ℕ) (h k m : Body P) (c : Change P)
     → slice_get whole place ≡ Some c → MakesRoom whole n place h k → Keeps k m
-    → m.charts.items ≡ k.charts.items → HasRoom n m c → MakesRoom whole n (place + 1) h m
+    → m.charts.items ≡ k.charts.items → IsMadeFor n m c → MakesRoom whole n (place + 1) h m
 more_room {P = P} whole n place h k m c at l keeps charts room =
     let is = drop_at whole place c at in
     record {
@@ -148,15 +167,94 @@ more_room {P = P} whole n place h k m c at l keeps charts room =
       charts = charts ∙ l.charts;
       ready = omega (arith, l.ready, keeps.ready);
       rest = λ b kept have. l.rest b (keeps_on k m b keeps kept)
-          (subst (HaveRoom n b) (sym is) (room_kept n m b c kept room, have));
+          (subst (AreMadeFor n b) (sym is) (made_kept n m b c kept room, have));
       targets = (subst (HaveTargets (length h.sessions.items)) is l.targets).1;
     }
 
+-- a room of the first list, and one of the second
+pub room_first : (xs ys : List ℕ) (i : ℕ) → i < length xs → room_at (xs ++ ys) i ≡ room_at xs i
+room_first [] ys i l = absurd (omega (arith, l))
+room_first (x ∷ xs) ys zero l = refl
+room_first (x ∷ xs) ys (suc i) l = room_first xs ys i (omega (arith, l))
+
+pub room_second : (xs ys : List ℕ) (i : ℕ) → length xs ≤ i → room_at (xs ++ ys) i ≡ room_at ys (i - length xs)
+room_second [] ys i l = ap (room_at ys) (omega arith)
+room_second (x ∷ xs) ys zero l = absurd (omega (arith, l))
+room_second (x ∷ xs) ys (suc i) l =
+    room_second xs ys i (omega (arith, l)) ∙ ap (room_at ys) (omega (arith, l))
+
+-- the room of a queue is that of its session
+pub room_is : (f : Session → ℕ) (items : List Session) (place : ℕ)
+    → room_at (map f items) place ≡ option_map_or f (slice_get items place) 0
+room_is f items place = ap (λ o. unwrap_or o 0) (slice_get-map f items place) ∙ by (slice_get items place)
+  where
+    by : (o : Option Session) → unwrap_or (option_map f o) 0 ≡ option_map_or f o 0
+    by None = refl
+    by (Some s) = refl
+
+queue_made : {P : Type 0} (n count : ℕ) (h : Body P) (rooms : List ℕ) (place : ℕ) (e : Event) → n ≤ count
+    → (place < length h.sessions.items → n ≤ queue_room h place)
+    → (length h.sessions.items ≤ place → count ≤ room_at rooms (place - length h.sessions.items))
+    → n ≤ room_at (queue_rooms h ++ rooms) place
+queue_made {P = P} n count h rooms place e less made roomy = by (nat_lt place (length h.sessions.items)) refl
+  where
+    own : List ℕ
+    own = queue_rooms h
+
+    long : length own ≡ length h.sessions.items
+    long = map_long (λ (s : Session). s.queued.spare) h.sessions.items
+
+    by : (b : Bool) → nat_lt place (length h.sessions.items) ≡ b → n ≤ room_at (own ++ rooms) place
+    by true at =
+        let within : place < length h.sessions.items = grind (arith, nat_tests, at) in
+        let first = room_first own rooms place (omega (arith, within, long)) in
+        let enough = made within in
+        omega (arith, enough, first, room_is (λ (s : Session). s.queued.spare) h.sessions.items place)
+    by false at =
+        let past : length h.sessions.items ≤ place = grind (arith, nat_tests, at) in
+        let second = room_second own rooms place (omega (arith, past, long)) in
+        let same : room_at rooms (place - length own) ≡ room_at rooms (place - length h.sessions.items) =
+        ap (λ m. room_at rooms (place - m)) long in
+        let enough = roomy past in
+        omega (arith, less, enough, second, same)
+
+one_room : {P : Type 0} (n count : ℕ) (h : Body P) (rooms : List ℕ) (c : Change P) → n ≤ count → IsMadeFor n h c
+    → IsRoomy (length h.sessions.items) count rooms c → HasRoom n h (queue_rooms h ++ rooms) c
+one_room n count h rooms Count less made roomy = tt
+one_room n count h rooms (Advance clock) less made roomy = tt
+one_room n count h rooms (Install name chart) less made roomy = made
+one_room n count h rooms (Start name session) less made roomy = made
+one_room n count h rooms (Bear invoker name session) less made roomy = made
+one_room n count h rooms (PutState place state) less made roomy = tt
+one_room n count h rooms (TakeFront place) less made roomy = tt
+one_room n count h rooms (Queue place e) less made roomy = queue_made n count h rooms place e less made roomy
+one_room n count h rooms (Tell place e) less made roomy = made
+one_room n count h rooms (Flag place) less made roomy = tt
+one_room n count h rooms (CutOff place) less made roomy = tt
+one_room n count h rooms (DropInvoke place child) less made roomy = tt
+one_room n count h rooms (End place) less made roomy = tt
+one_room n count h rooms (Delay send) less made roomy = made
+one_room n count h rooms (Undo session id) less made roomy = tt
+one_room n count h rooms (Fire place id) less made roomy = made
+one_room n count h rooms Lose less made roomy = tt
+
+rooms_of_all : {P : Type 0} (n count : ℕ) (h : Body P) (rooms : List ℕ) (cs : List (Change P)) → n ≤ count
+    → AreMadeFor n h cs → AllByRecursion (IsRoomy (length h.sessions.items) count rooms) cs
+    → HaveRoomOf n h (queue_rooms h ++ rooms) cs
+rooms_of_all n count h rooms [] less made roomy = tt
+rooms_of_all n count h rooms (c ∷ cs) less made roomy =
+    (one_room n count h rooms c less made.0 roomy.0, rooms_of_all n count h rooms cs less made.1 roomy.1)
+
+-- room was made for all
 pub all_room : {P : Type 0} (whole : List (Change P)) (n place : ℕ) (h k : Body P) → slice_get whole place ≡ None
-    → MakesRoom whole n place h k → HaveRoom (length whole) k whole
-all_room whole n place h k none l =
-    subst (λ m. HaveRoom m k whole) l.count
-    (l.rest k (keeps_same k l.keeps.agrees) (subst (HaveRoom n k) (sym (drop_past whole place none)) tt))
+    → MakesRoom whole n place h k → AreRoomy (length h.sessions.items) whole → HaveRoom (length whole) k whole
+all_room {P = P} whole n place h k none l roomy =
+    let made : AreMadeFor n k whole =
+    l.rest k (keeps_same k l.keeps.agrees) (subst (AreMadeFor n k) (sym (drop_past whole place none)) tt) in
+    let there : AreRoomy (length k.sessions.items) whole =
+    subst (λ m. AreRoomy m whole) (sym (same_length h k l.keeps)) roomy in
+    subst (λ m. HaveRoomOf m k (rooms_ahead k whole) whole) l.count
+    (rooms_of_all n (length whole) k (new_rooms whole) whole (omega (arith, l.count)) made there)
 
 pub keeps_ready : {P : Type 0} (h : Body P) (ready : PlacesOf) → Agrees h → ready.places ≡ h.ready.places
     → h.ready.spare ≤ ready.spare → Keeps h (record h { ready = ready })
@@ -167,7 +265,13 @@ keeps_ready h ready agrees places spare = record {
   ready = spare;
   queued = λ place. omega arith;
   failures = λ place. omega arith;
-  agrees = record { charts = agrees.charts; sessions = agrees.sessions; ready = places ∙ agrees.ready };
+  children = λ place. omega arith;
+  agrees = record {
+    charts = agrees.charts;
+    sessions = agrees.sessions;
+    ready = places ∙ agrees.ready;
+    family = agrees.family;
+  };
   image = refl;
 }
 

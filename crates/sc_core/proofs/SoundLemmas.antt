@@ -1,5 +1,5 @@
 -- What is always true of the host machine is true of it after each command.
-use Rattle.std.proofs.Common.{◌≡◌, ℕ, suc, ◌+◌, ◌-◌, ◌*◌, ◌^◌, ◌≤◌, ◌==◌, ◌&&◌, All, Bool, true, false, not, if◌then◌else◌, nat_lt, Option, Some, None, List, [], ◌∷◌, length, get_or, slice_get, refl, sym, ap, subst, ◌∙◌, arith}
+use Rattle.std.proofs.Common.{length-append, ◌≡◌, ℕ, suc, ◌+◌, ◌-◌, ◌*◌, ◌^◌, ◌≤◌, ◌==◌, ◌&&◌, All, Bool, true, false, not, if◌then◌else◌, nat_lt, Option, Some, None, List, [], ◌∷◌, length, get_or, slice_get, refl, sym, ap, subst, ◌∙◌, arith}
 use Rattle.std.specs.Option.{option_map_or}
 use Rattle.std.proofs.lemmas.List.Elements.{All-cons, All-filter, All-head, All-push, All-set, All-tail}
 use Rattle.sc_types.specs.Sends.{is_before, is_of, is_send, with_send}
@@ -9,18 +9,21 @@ use Rattle.sc_types.specs.declared.effect.Effect.TheVariants.{CancelChild, Cance
 use Rattle.sc_types.specs.declared.event.Event.{Event}
 use Rattle.sc_types.specs.declared.history.Delivery.TheVariants.{Dropped, Nothing, Timed}
 use Rattle.sc_types.specs.declared.host.HostImage.{HostImage}
+use Rattle.sc_types.specs.declared.host.InvokerImage.{InvokerImage}
 use Rattle.sc_types.specs.declared.host.SessionImage.{SessionImage}
 use Rattle.sc_types.specs.declared.host.TimerImage.{TimerImage}
 use Rattle.sc_types.specs.declared.host.To.{To}
 use Rattle.sc_types.specs.declared.limits.TheConstants.{CLOCK_LIMIT}
 use Rattle.sc_types.specs.declared.session.Cue.{Cue}
+use Rattle.sc_types.specs.declared.session.How.{How}
 use Rattle.sc_types.specs.declared.session.Phase.{Phase}
 use Rattle.sc_types.specs.declared.session.Phase.TheVariants as phase
 use Rattle.sc_law.specs.Fitting.{Fits}
 use Rattle.sc_law.specs.Turn.{turn}
-use Rattle.sc_core.specs.Commands.{Answer, advance, answer, fresh_session, posted_event, put_in}
-use Rattle.sc_core.specs.Deliveries.{deliver, deliver_all, deliver_of, delay_send, due_time, end_at, end_in, fire, fire_all, hears, is_cut_from, is_due, left_as, next_send, queue, receiver_name, send_found, send_named, send_now, undo, unreachable, while_live}
+use Rattle.sc_core.specs.Commands.{Answer, advance, answer, fresh_session, posted_event, put_in, step_turn}
+use Rattle.sc_core.specs.Deliveries.{born, cancel_child, deliver, deliver_all, deliver_of, delay_send, due_time, fire, fire_all, hand_to, hears, may_bear, unborn, is_cut_from, is_due, left_as, next_send, queue, receiver_name, send_found, send_named, send_now, undo, unreachable, while_live}
 use Rattle.sc_core.specs.Drafts.{AreNumbered}
+use Rattle.sc_core.specs.Endings.{cleared, end_at, end_event, end_in, one_delivery, tell_end, tell_invoker, with_children_left}
 use Rattle.sc_core.specs.FittingHosts.{FitsChart}
 use Rattle.sc_core.specs.Hosts.{chart_named, has_chart, is_live, is_running, session_named, with_session}
 use Rattle.sc_core.specs.HostStates.{IsSound}
@@ -28,7 +31,7 @@ use Rattle.sc_core.specs.Preparing.{FitsOn, StepFits}
 use Rattle.sc_core.proofs.ChangeLemmas.{Change, cancels, change_of, installs, posts, refuses, starts, ticks, turns, with_chart, with_fresh}
 use Rattle.sc_core.proofs.FitLemmas.{fits-at, fits-more, fits-same, fresh-fits, live-runs}
 use Rattle.sc_core.proofs.FoundLemmas.{is_at}
-use Rattle.sc_core.proofs.MoveLemmas.{all_events, all_fire, all_move, commands_moved, commands_moves, due_in, end_moves, events_moved, fire_events, fits_moved, fits_moves, puts, queues, same, ticked}
+use Rattle.sc_core.proofs.MoveLemmas.{all_events, all_fire, all_move, commands_moves, due_in, end_events, end_moves, fire_events, fits_moved, fits_moves, puts, queues, same, ticked}
 use Rattle.sc_core.proofs.TurnLemmas.{turn-of, turn-past}
 
 -- the clock stands, and the pending sends keep their numbers
@@ -101,6 +104,11 @@ undo_steady g s (b ∷ id) = record {
       g.timers;
 }
 
+hand_steady : (g : HostImage) (name : List ℕ) (e : Event) (o : Option (ℕ × SessionImage))
+    → IsSteady g (hand_to g name e o).host
+hand_steady g name e None = stays g
+hand_steady g name e (Some found) = record { clock = refl; sends = λ all. all }
+
 effect_steady : (g : HostImage) (place : ℕ) (s : SessionImage) (effect : Effect)
     → IsSteady g (deliver_of g place s effect).host
 effect_steady g place s (Send e who delay) = by (delay == 0) where
@@ -108,9 +116,15 @@ effect_steady g place s (Send e who delay) = by (delay == 0) where
   by true = send_steady g place s who e
   by false = delay_steady g s who e delay
 effect_steady g place s (CancelSend id) = undo_steady g s id
-effect_steady g place s (Invoke id child chart pairs) = stays g
-effect_steady g place s (CancelChild child) = stays g
-effect_steady g place s (Forward child e) = stays g
+effect_steady g place s (Invoke id child chart pairs) = by (may_bear g s child chart) where
+  by : (may : Bool) → IsSteady g (if may then born g s id child chart pairs else unborn g place s id child).host
+  by true = record { clock = refl; sends = λ all. all }
+  by false = record { clock = refl; sends = λ all. all }
+effect_steady g place s (CancelChild child) = by (while_live (session_named g child)) where
+  by : (o : Option (ℕ × SessionImage)) → IsSteady g (cancel_child g child o).host
+  by None = stays g
+  by (Some found) = record { clock = refl; sends = λ all. all }
+effect_steady g place s (Forward child e) = hand_steady g child e (while_live (session_named g child))
 
 -- carrying out an effect is steady
 pub deliver_steady : (g : HostImage) (place : ℕ) (effect : Effect) → IsSteady g (deliver g place effect).host
@@ -144,18 +158,37 @@ fires_steady g (t ∷ ts) =
     let m = (fire g t).host in
     and_steady g m (fire_all m ts).host (fire_steady g t) (fires_steady m ts)
 
-end_steady : (g : HostImage) (place : ℕ) → IsSteady g (end_at g place)
+told_steady : (g : HostImage) (o : Option InvokerImage) (how : How) → IsSteady g (tell_end g o how).host
+told_steady g None how = stays g
+told_steady g (Some i) how = by (end_event i.invokeid how) where
+  one : (e : Event) → IsSteady g (tell_invoker g i e).host
+  one e = cut i.cut where
+    cut : (b : Bool)
+        → IsSteady g (if b then left_as g Dropped else hand_to g i.session e (while_live (session_named g i.session))).host
+    cut true = stays g
+    cut false = hand_steady g i.session e (while_live (session_named g i.session))
+
+  by : (o : Option Event) → IsSteady g
+      (option_map_or (λ (e : Event). one_delivery (tell_invoker g i e)) o (record { host = g; sent = [] })).host
+  by None = stays g
+  by (Some e) = one e
+
+end_steady : (g : HostImage) (place : ℕ) → IsSteady g (end_at g place).host
 unfolding end_at
 end_steady g place = by (slice_get g.sessions place) where
-  in_phase : (s : SessionImage) (p : Phase) → IsSteady g (end_in g place s p)
-  in_phase s (phase.Ended how) = record {
-    clock = refl;
-    sends = All-filter (λ (t : TimerImage). not (is_of s.state.session t)) (λ (t : TimerImage). t.number ≤ g.delayed) g.timers;
-  }
+  in_phase : (s : SessionImage) (p : Phase) → IsSteady g (end_in g place s p).host
+  in_phase s (phase.Ended how) =
+      let k = with_children_left (cleared g place s) s.state.session in
+      and_steady g k (tell_end k s.invoker how).host (record {
+        clock = refl;
+        sends = All-filter (λ (t : TimerImage). not (is_of s.state.session t)) (λ (t : TimerImage). t.number ≤ g.delayed)
+            g.timers;
+      }) (told_steady k s.invoker how)
   in_phase s phase.Fresh = stays g
   in_phase s phase.Running = stays g
 
-  by : (o : Option SessionImage) → IsSteady g (option_map_or (λ (s : SessionImage). end_in g place s s.state.phase) o g)
+  by : (o : Option SessionImage) → IsSteady g
+      (option_map_or (λ (s : SessionImage). end_in g place s s.state.phase) o (record { host = g; sent = [] })).host
   by None = stays g
   by (Some s) = in_phase s s.state.phase
 
@@ -191,21 +224,17 @@ stepped_fits g s cue on f =
           (on.fits (live-runs t.after.phase (turn-past k s.state cue) live));
     }
 
--- the parts of a step: the state is put in, the effects are carried out, the session is cleared where it has ended
+-- the parts of a step: the state is put in, the effects are carried out, and then what goes with the session's end
 turn_sound : (g : HostImage) (place : ℕ) (s : SessionImage) (cue : Cue) → IsSound g → slice_get g.sessions place ≡ Some s
-    → FitsOn g s cue → length (turn (chart_named g s.state.chart) s.state cue).effects ≤ 2 ^ 64 - 1
-    → IsSound (record (end_at (deliver_all
-    (with_session g place (put_in s cue (turn (chart_named g s.state.chart) s.state cue))) place
-    (turn (chart_named g s.state.chart) s.state cue).effects).host place) {
-      commands = (end_at (deliver_all
-          (with_session g place (put_in s cue (turn (chart_named g s.state.chart) s.state cue))) place
-          (turn (chart_named g s.state.chart) s.state cue).effects).host place).commands + 1;
-    })
+    → FitsOn g s cue → length (step_turn g place s cue (turn (chart_named g s.state.chart) s.state cue)).sent ≤ 2 ^ 64 - 1
+    → IsSound (step_turn g place s cue (turn (chart_named g s.state.chart) s.state cue)).host
 turn_sound g place s cue sound there on few =
     let t = turn (chart_named g s.state.chart) s.state cue in
     let put = with_session g place (put_in s cue t) in
-    let m = (deliver_all put place t.effects).host in
-    let h = end_at m place in
+    let delivered = deliver_all put place t.effects in
+    let m = delivered.host in
+    let ended = end_at m place in
+    let h = ended.host in
     let stepped : FitsChart put (put_in s cue t) =
     fits-same g put (put_in s cue t) refl (stepped_fits g s cue on (fits-at g place s sound.sessions there)) in
     let first : All (FitsChart put) put.sessions =
@@ -214,11 +243,13 @@ turn_sound g place s cue sound there on few =
     let moves = all_move put place t.effects in
     let last = end_moves m place in
     let steady = and_steady put m h (all_steady put place t.effects) (end_steady m place) in
-    let commands : h.commands ≡ g.commands = commands_moved m h _ last ∙ commands_moves put m _ moves in
+    let commands : h.commands ≡ g.commands = commands_moves m h _ last ∙ commands_moves put m _ moves in
     let most = all_events put place t.effects in
-    let more = events_moved m h _ last in
-    counted h (fits_moved m h _ last (fits_moves put m _ moves first)) (steady.sends sound.sends)
-    (omega (arith, sound.events, commands, most, more, few)) (omega (arith, steady.clock, sound.clock))
+    let more = end_events m place in
+    let many = delivered_many put place t.effects in
+    let both = length-append delivered.sent ended.sent in
+    counted h (fits_moves m h _ last (fits_moves put m _ moves first)) (steady.sends sound.sends)
+    (omega (arith, sound.events, commands, most, more, many, both, few)) (omega (arith, steady.clock, sound.clock))
 
 -- sends that come due
 tick_sound : (g : HostImage) (now : ℕ) → IsSound g → now ≤ CLOCK_LIMIT → length (due_in g now) ≤ 2 ^ 64 - 1
@@ -268,12 +299,10 @@ kept g c a (cancels session place s command found is) sound fit few =
     (λ f. record { chart = f.chart; fits = f.fits }) refl refl refl refl refl) sound.sessions) sound.sends
     (omega (arith, sound.events)) sound.clock)
 kept g c a (turns session place s cue command found has is) sound fit few =
-    let t = turn (chart_named g s.state.chart) s.state cue in
     let sent = ap (λ (x : Answer). length x.sent) is in
-    let many = delivered_many (with_session g place (put_in s cue t)) place t.effects in
     subst (λ (x : Answer). IsSound x.host) (sym is)
     (turn_sound g place s cue sound (is_at g session place s found).there (fit session place s cue command found has)
-    (omega (arith, few, sent, many)))
+    (omega (arith, few, sent)))
 
 -- what is always true of the host machine is true after its answer
 pub sound_answer : (g : HostImage) (c : Command) → IsSound g → StepFits g c → length (answer g c).sent ≤ 2 ^ 64 - 1

@@ -3,6 +3,7 @@ use Rattle.std.proofs.Common.{IfOk, Result, Ok, Err, append-nil, ◌≡◌, ℕ,
 use Rattle.std.proofs.lemmas.Bool.Decides.{nat_tests}
 use Rattle.std.proofs.lemmas.List.{length-append, length-map, append_assoc}
 use Rattle.std.proofs.lemmas.Option.{slice_get-map, slice_get_within}
+use Rattle.std.specs.List.{AllByRecursion}
 use Rattle.std.specs.Option.{option_map_or}
 use Rattle.std.specs.Str.{bytes_eq}
 use Rattle.sc_base.specs.declared.memory.NoMemory.{NoMemory}
@@ -22,7 +23,7 @@ use Rattle.sc_core.specs.Commands.{advance}
 use Rattle.sc_core.specs.Deliveries.{Delivered, fire, fire_all, hears, is_cut_from, is_due, left_as, queue, receiver_name, send_found, send_named, send_now, unreachable, while_live}
 use Rattle.sc_core.specs.Hosts.{is_running, session_named, session_place, with_session}
 use Rattle.sc_core.specs.HostStates.{ArePlanned}
-use Rattle.sc_core.specs.Installing.{CanApplyAll, HaveTargets, installed}
+use Rattle.sc_core.specs.Installing.{AreRoomy, CanApplyAll, HaveTargets, IsRoomy, installed, new_rooms}
 use Rattle.sc_core.specs.Preparing.{InstallNone, Prepares}
 use Rattle.sc_core.specs.Ticking.{Adds, Fired, fired, fired_at, fired_by, fired_failed, fired_from, fired_lost, fired_to, failure_of}
 use Rattle.sc_core.specs.declared.aims.Aim.{Aim}
@@ -36,6 +37,7 @@ use Rattle.sc_core.proofs.AimLemmas.{aim_in, arrives, carried_is_sent, named_in,
 use Rattle.sc_core.proofs.AppendLemmas.{can_more, installed_more, planned_more, targets_more}
 use Rattle.sc_core.proofs.BodyLemmas.{position_map}
 use Rattle.sc_core.proofs.FoundLemmas.{is_at}
+use Rattle.sc_core.proofs.GivenLemmas.{all_both}
 use Rattle.sc_core.proofs.MoveLemmas.{due_in, events_moved, fire_moves, given_in, ticked}
 use Rattle.sc_core.proofs.SetLemmas.{image_at}
 
@@ -48,6 +50,7 @@ pub record IsFired {P : Type 0} (h : HostImage) (f : Fired P) (d : Delivered) : 
   pub events : f.events ≡ d.host.events
   pub can : IsFirstDue h.clock h.timers → h.events + 1 < 2 ^ 128 → CanApplyAll h f.changes
   pub targets : HaveTargets (length h.sessions) f.changes
+  pub roomy : (n count : ℕ) (rooms : List ℕ) → AllByRecursion (IsRoomy {P = P} n count rooms) f.changes
   pub plain : InstallNone f.changes
 
 -- without the first pending send
@@ -70,6 +73,7 @@ lost_fired h t ts what first = record {
   events = refl;
   can = λ due less. (due, tt);
   targets = (tt, tt);
+  roomy = λ n count rooms. (tt, tt);
   plain = λ chart_of. tt;
 }
 
@@ -108,6 +112,7 @@ failed_fired {P = P} h t ts place s first there = by (is_running s.state.phase)
       events = refl;
       can = λ due less. (due, tt);
       targets = (tt, tt);
+      roomy = λ n count rooms. (tt, tt);
       plain = λ chart_of. tt;
     }
     by true = record {
@@ -117,6 +122,7 @@ failed_fired {P = P} h t ts place s first there = by (is_running s.state.phase)
       events = refl;
       can = λ due less. (due, (within, tt));
       targets = (tt, (within, tt));
+      roomy = λ n count rooms. (tt, (tt, tt));
       plain = λ chart_of. tt;
     }
 
@@ -136,6 +142,7 @@ reached_fired h t ts s to r first there =
       events = refl;
       can = λ due less. ((within, less, due), tt);
       targets = (within, tt);
+      roomy = λ n count rooms. (tt, tt);
       plain = λ chart_of. tt;
     }
 
@@ -431,6 +438,7 @@ pub record Ticks {P : Type 0} (g : HostImage) (now : ℕ) (d : Draft P) : Type 0
   pub left : undue now (drop (length d.sent) g.timers) ≡ (ticked g now).timers
   pub can : CanApplyAll g d.changes
   pub targets : HaveTargets (length g.sessions) d.changes
+  pub roomy : (n count : ℕ) (rooms : List ℕ) → AllByRecursion (IsRoomy {P = P} n count rooms) d.changes
   pub plain : InstallNone d.changes
 
 -- the next send that is due
@@ -483,6 +491,8 @@ tick_more {P = P} g now d e t there due less added so =
       targets = subst (HaveTargets (length g.sessions)) (sym added.changes)
           (targets_more d.changes f.changes (length g.sessions) so.targets
           (subst (λ n. HaveTargets n f.changes) long made.targets));
+      roomy = λ n count rooms. subst (AllByRecursion (IsRoomy {P = P} n count rooms)) (sym added.changes)
+          (all_both (IsRoomy {P = P} n count rooms) d.changes f.changes (so.roomy n count rooms) (made.roomy n count rooms));
       plain = λ chart_of. subst (ArePlanned chart_of) (sym added.changes)
           (planned_more chart_of d.changes f.changes (so.plain chart_of) (made.plain chart_of));
     }
@@ -559,6 +569,9 @@ tick_done {P = P} g now d p less so none changes replied logs sent =
           (can_more d.changes (Count ∷ []) g so.can (omega (arith, less, so.commands), tt));
       targets = subst (HaveTargets (length g.sessions)) (sym changes)
           (targets_more d.changes (Count ∷ []) (length g.sessions) so.targets (tt, tt));
+      roomy = subst (AreRoomy (length g.sessions)) (sym changes)
+          (all_both (IsRoomy {P = P} (length g.sessions) (length (d.changes ++ Count ∷ [])) (new_rooms (d.changes ++ Count ∷ [])))
+          d.changes (Count ∷ []) (so.roomy _ _ _) (tt, tt));
     }
   where
     all : drafted g d ≡ (fire_all (ticked g now) (due_in g now)).host

@@ -6,11 +6,14 @@ use Rattle.sc_types.specs.declared.event.Event.{Event}
 use Rattle.sc_types.specs.declared.host.HostImage.{HostImage}
 use Rattle.sc_types.specs.declared.host.SessionImage.{SessionImage}
 use Rattle.sc_types.specs.declared.host.TimerImage.{TimerImage}
+use Rattle.sc_types.specs.declared.session.Phase.{Phase}
+use Rattle.sc_types.specs.declared.session.Phase.TheVariants as phase
 use Rattle.sc_types.specs.declared.session.SessionState.{SessionState}
 use Rattle.sc_types.specs.declared.host.ChartImage.{ChartImage}
 use Rattle.sc_core.specs.Bodies.{session_image}
 use Rattle.sc_core.specs.declared.session.Session.{Session}
-use Rattle.sc_core.specs.Deliveries.{queue}
+use Rattle.sc_core.specs.Deliveries.{cut_off, queue, without_invoke}
+use Rattle.sc_core.specs.Endings.{cleared}
 use Rattle.sc_core.specs.Hosts.{with_session}
 
 -- the session at a place is changed
@@ -25,6 +28,20 @@ take_front g place = at_session g place (λ s. record s { queued = drop 1 s.queu
 
 abbrev pub flag : HostImage → ℕ → HostImage
 flag g place = at_session g place (λ s. record s { flagged = true })
+
+abbrev pub cut_off_at : HostImage → ℕ → HostImage
+cut_off_at g place = at_session g place cut_off
+
+abbrev pub drop_invoke : HostImage → ℕ → List ℕ → HostImage
+drop_invoke g place child = at_session g place (without_invoke child)
+
+-- a session that has ended is cleared
+abbrev pub clear_in : HostImage → ℕ → SessionImage → Phase → HostImage
+clear_in g place s (phase.Ended how) = cleared g place s
+clear_in g place s p = g
+
+unfoldable pub clear_at : HostImage → ℕ → HostImage
+clear_at g place = option_map_or (λ (s : SessionImage). clear_in g place s s.state.phase) (slice_get g.sessions place) g
 
 abbrev pub tell : HostImage → ℕ → Event → HostImage
 tell g place e = at_session g place (λ s. record s { state = record s.state { internal = s.state.internal ++ e ∷ [] } })

@@ -26,7 +26,8 @@ use Rattle.sc_law.specs.LegalCharts.{legal_chart_of}
 use Rattle.sc_law.specs.Runs.{fresh_state, pairs_data}
 use Rattle.sc_law.specs.Turn.{TurnResult, turn}
 use Rattle.sc_core.specs.Cues.{cue_of, name_of, queue_left}
-use Rattle.sc_core.specs.Deliveries.{deliver_all, end_at, fire_all, is_due, queue}
+use Rattle.sc_core.specs.Deliveries.{deliver_all, fire_all, is_due, queue}
+use Rattle.sc_core.specs.Endings.{end_at}
 use Rattle.sc_core.specs.Hosts.{chart_named, has_chart, session_named, session_place, with_session}
 
 -- what the host answers: itself after the command, the reply, what was logged, and what became of each delivery
@@ -154,11 +155,12 @@ cancel g (Some found) = cancel_to g found.0 found.1 found.1.state.phase
 abbrev pub put_in : SessionImage → Cue → TurnResult → SessionImage
 put_in s cue t = record s { state = t.after; queued = queue_left cue s.queued }
 
--- the state after the turn is put in, then the turn's effects are carried out, and then a session that has ended is cleared
+-- the state after the turn is put in, then the turn's effects are carried out, and then what goes with the session's end
 abbrev pub step_turn : HostImage → ℕ → SessionImage → Cue → TurnResult → Answer
 step_turn g place s cue t =
     let delivered = deliver_all (with_session g place (put_in s cue t)) place t.effects in
-    accepted (end_at delivered.host place) (Stepped (name_of cue)) t.logs delivered.sent
+    let ended = end_at delivered.host place in
+    accepted ended.host (Stepped (name_of cue)) t.logs (delivered.sent ++ ended.sent)
 
 abbrev pub step_cue : HostImage → ℕ → SessionImage → Option Cue → Answer
 step_cue g place s None = refused g refusal.Idle

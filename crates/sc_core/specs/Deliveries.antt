@@ -1,25 +1,26 @@
--- How the host carries out what a turn asks for (SCXML 6.2, 6.3 and C.1). The order of the tests, and which of them tells the
--- sender, is this host's own rule.
-use Rattle.std.specs.Prelude.{ℕ, ◌+◌, ◌-◌, ◌^◌, ◌==◌, ◌&&◌, Bool, false, not, if◌then◌else◌, min, nat_le, nat_lt, Option, Some, None, option_map, List, [], ◌∷◌, ◌++◌, codes, count_by, filter, slice_get}
+-- How the host carries out what a turn asks for (SCXML 6.2, 6.3, 6.4 and C.1). The order of the tests, and which of them
+-- tells the sender, is this host's own rule.
+use Rattle.std.specs.Prelude.{ℕ, ◌+◌, ◌-◌, ◌^◌, ◌==◌, ◌&&◌, Bool, false, true, not, if◌then◌else◌, min, nat_le, nat_lt, Option, Some, None, is_some, option_map, List, [], ◌∷◌, ◌++◌, codes, count_by, filter, slice_get}
 use Rattle.std.specs.Option.{option_map_or}
 use Rattle.std.specs.Str.{bytes_eq}
-use Rattle.sc_types.specs.Sends.{is_of, is_send, with_send}
+use Rattle.sc_types.specs.Sends.{is_send, with_send}
 use Rattle.sc_types.specs.declared.effect.Effect.{Effect}
-use Rattle.sc_types.specs.declared.effect.Effect.TheVariants.{CancelSend, Send}
+use Rattle.sc_types.specs.declared.effect.Effect.TheVariants.{CancelChild, CancelSend, Forward, Invoke, Send}
 use Rattle.sc_types.specs.declared.event.Data.TheVariants.{Absent}
 use Rattle.sc_types.specs.declared.event.Event.{Event}
 use Rattle.sc_types.specs.declared.history.Delivery.{Delivery}
-use Rattle.sc_types.specs.declared.history.Delivery.TheVariants.{Dropped, Nothing, Queued, Timed, Undone, Unreachable}
+use Rattle.sc_types.specs.declared.history.Delivery.TheVariants.{Born, Dropped, Flagged, Nothing, Queued, Timed, Unborn, Undone, Unreachable}
 use Rattle.sc_types.specs.declared.host.HostImage.{HostImage}
 use Rattle.sc_types.specs.declared.host.InvokerImage.{InvokerImage}
 use Rattle.sc_types.specs.declared.host.SessionImage.{SessionImage}
 use Rattle.sc_types.specs.declared.host.TimerImage.{TimerImage}
 use Rattle.sc_types.specs.declared.host.To.{To}
 use Rattle.sc_types.specs.declared.host.To.TheVariants as to
-use Rattle.sc_types.specs.declared.session.Phase.{Phase}
-use Rattle.sc_types.specs.declared.session.Phase.TheVariants as phase
-use Rattle.sc_law.specs.Runs.{platform_event}
-use Rattle.sc_core.specs.Hosts.{is_live, is_running, session_named, with_session}
+use Rattle.sc_types.specs.declared.limits.TheConstants.{INVOKE_DEPTH_LIMIT}
+use Rattle.sc_types.specs.declared.session.Invoked.{Invoked}
+use Rattle.sc_types.specs.declared.value.Value.{Value}
+use Rattle.sc_law.specs.Runs.{fresh_state, platform_event}
+use Rattle.sc_core.specs.Hosts.{has_chart, is_live, is_running, session_named, session_place, with_session}
 
 -- the host after one delivery, and what became of it
 pub record Delivered : Type 0 where
@@ -126,12 +127,75 @@ undo g s (b ∷ id) = record {
   what = Undone (count_by (is_send s.state.session (b ∷ id)) g.timers);
 }
 
--- An effect of the session at a place. A delay of 0 is none. This version carries out no invocation: no chart that it runs
--- has one.
+-- 6.4: the session that an invocation starts, one level below the session that invoked it
+abbrev pub child_session : SessionImage → List ℕ → List ℕ → List ℕ → List (List ℕ × Value) → SessionImage
+child_session s id child chart pairs = record {
+  state = fresh_state child chart pairs;
+  queued = [];
+  flagged = false;
+  invoker = Some (record { session = s.state.session; invokeid = id; cut = false });
+  depth = s.depth + 1;
+}
+
+-- what a session hears of an invocation that starts nothing
+abbrev pub unborn_event : List ℕ → Event
+unborn_event id = record (platform_event (codes "error.communication") [] Absent) { invokeid = id }
+
+-- the invocation leaves the list of those that run
+abbrev pub without_invoke : List ℕ → SessionImage → SessionImage
+without_invoke child s = record s {
+  state = record s.state { invokes = filter (λ (i : Invoked). not (bytes_eq i.child child)) s.state.invokes };
+}
+
+-- the session hears of an event that the host tells while it runs
+abbrev pub told : Event → SessionImage → SessionImage
+told e s =
+    if is_running s.state.phase then record s { state = record s.state { internal = s.state.internal ++ e ∷ [] } } else s
+
+-- 6.4: the chart is installed, the child is not too deep, and its name is new. A session counts its children, and no
+-- client starts a session of such a name, so that a name which is taken never comes.
+abbrev pub may_bear : HostImage → SessionImage → List ℕ → List ℕ → Bool
+may_bear g s child chart = has_chart g chart && nat_lt s.depth INVOKE_DEPTH_LIMIT && not (is_some (session_place g child))
+
+abbrev pub born : HostImage → SessionImage → List ℕ → List ℕ → List ℕ → List (List ℕ × Value) → Delivered
+born g s id child chart pairs = record {
+  host = record g { sessions = g.sessions ++ child_session s id child chart pairs ∷ [] };
+  what = Born child;
+}
+
+abbrev pub unborn : HostImage → ℕ → SessionImage → List ℕ → List ℕ → Delivered
+unborn g place s id child = record {
+  host = with_session g place (told (unborn_event id) (without_invoke child s));
+  what = Unborn;
+}
+
+-- 6.4: a session of an installed chart is started, or the invoking session hears that none is
+abbrev pub invoke : HostImage → ℕ → SessionImage → List ℕ → List ℕ → List ℕ → List (List ℕ × Value) → Delivered
+invoke g place s id child chart pairs =
+    if may_bear g s child chart then born g s id child chart pairs else unborn g place s id child
+
+-- its next turn ends it, and it and its invoker hear no more of one another
+abbrev pub cut_off : SessionImage → SessionImage
+cut_off s = record s { flagged = true; invoker = option_map (λ (i : InvokerImage). record i { cut = true }) s.invoker }
+
+-- 6.4.3: a child session that lives is cancelled
+abbrev pub cancel_child : HostImage → List ℕ → Option (ℕ × SessionImage) → Delivered
+cancel_child g child None = left_as g Nothing
+cancel_child g child (Some found) =
+    record { host = with_session g found.0 (cut_off found.1); what = Flagged child }
+
+-- an event joins the external queue of the session of a name, where that lives
+abbrev pub hand_to : HostImage → List ℕ → Event → Option (ℕ × SessionImage) → Delivered
+hand_to g child e None = left_as g Dropped
+hand_to g child e (Some found) = record { host = queue g found.0 found.1 e; what = Queued (g.events + 1) child }
+
+-- an effect of the session at a place; a delay of 0 is none
 abbrev pub deliver_of : HostImage → ℕ → SessionImage → Effect → Delivered
 deliver_of g place s (Send e who delay) = if delay == 0 then send_now g place s who e else delay_send g s who e delay
 deliver_of g place s (CancelSend id) = undo g s id
-deliver_of g place s effect = left_as g Nothing
+deliver_of g place s (Invoke id child chart pairs) = invoke g place s id child chart pairs
+deliver_of g place s (CancelChild child) = cancel_child g child (while_live (session_named g child))
+deliver_of g place s (Forward child e) = hand_to g child e (while_live (session_named g child))
 
 unfoldable pub deliver : HostImage → ℕ → Effect → Delivered
 deliver g place effect =
@@ -146,15 +210,6 @@ abbrev pub deliver_all : HostImage → ℕ → List Effect → DeliveredAll
 deliver_all g place [] = record { host = g; sent = [] }
 deliver_all g place (effect ∷ effects) =
     and_then (deliver g place effect) (deliver_all (deliver g place effect).host place effects)
-
--- a session that has ended loses its external queue and its pending sends
-abbrev pub end_in : HostImage → ℕ → SessionImage → Phase → HostImage
-end_in g place s (phase.Ended how) =
-    record (with_session g place (record s { queued = [] })) { timers = filter (λ t. not (is_of s.state.session t)) g.timers }
-end_in g place s p = g
-
-unfoldable pub end_at : HostImage → ℕ → HostImage
-end_at g place = option_map_or (λ (s : SessionImage). end_in g place s s.state.phase) (slice_get g.sessions place) g
 
 -- sends that come due
 

@@ -14,6 +14,7 @@ rooms_of {P = P} h = record {
   ready = h.ready.spare;
   queued = map (λ (s : Session). s.queued.spare) h.sessions.items;
   failures = map (λ (s : Session). s.failures.spare) h.sessions.items;
+  children = map (λ (s : Session). s.children.spare) h.sessions.items;
 }
 
 abbrev pub host_of : {P : Type 0} → Body P → HostOf

@@ -1,5 +1,5 @@
 -- The host's body as contracts see it, and when a list of changes can be installed. This host's own rule.
-use Rattle.std.specs.Prelude.{ℕ, ◌*◌, ◌^◌, ◌≡◌, ◌≤◌, All, List, [], ◌∷◌, Ok, length, slice_get, unwrap_or}
+use Rattle.std.specs.Prelude.{ℕ, ◌*◌, ◌^◌, ◌≡◌, ◌≤◌, ◌++◌, All, List, [], ◌∷◌, Ok, length}
 use Rattle.std.specs.Arc.{arc_value}
 use Rattle.sc_types.specs.declared.chart.Chart.{Chart}
 use Rattle.sc_types.specs.declared.host.HostImage.{HostImage}
@@ -7,12 +7,12 @@ use Rattle.sc_types.specs.declared.host.TimerImage.{TimerImage}
 use Rattle.sc_types.specs.declared.limits.TheConstants.{CLOCK_LIMIT}
 use Rattle.sc_law.specs.LegalCharts.{legal_chart_of}
 use Rattle.sc_core.specs.FittingHosts.{FitsChart}
-use Rattle.sc_core.specs.Installing.{CanApplyAll, HaveTargets, installed}
+use Rattle.sc_core.specs.Installing.{AreRoomy, CanApplyAll, HaveTargets, installed, new_rooms, room_at}
 use Rattle.sc_core.specs.declared.body.InstalledChart.{InstalledChart}
 use Rattle.sc_core.specs.declared.change.Change.{Change}
-use Rattle.sc_core.specs.declared.change.Change.TheVariants.{Install, Start, Queue, Tell, Delay, Fire}
+use Rattle.sc_core.specs.declared.change.Change.TheVariants.{Install, Start, Bear, Queue, Tell, Delay, Fire}
 
--- for how much more there is room; in the queues, by the sessions' places
+-- for how much more there is room; in the queues, and for children, by the sessions' places
 pub record Rooms : Type 0 where
   pub charts : ℕ
   pub sessions : ℕ
@@ -20,6 +20,7 @@ pub record Rooms : Type 0 where
   pub ready : ℕ
   pub queued : List ℕ
   pub failures : List ℕ
+  pub children : List ℕ
 
 -- the host machine, and the rooms beside it
 pub record HostOf : Type 0 where
@@ -43,22 +44,24 @@ ArePlanned chart_of [] = Unit {0}
 ArePlanned chart_of (Install name chart ∷ cs) = IsPlanned chart_of chart × ArePlanned chart_of cs
 ArePlanned chart_of (c ∷ cs) = ArePlanned chart_of cs
 
-abbrev pub room_at : List ℕ → ℕ → ℕ
-room_at rooms place = unwrap_or (slice_get rooms place) 0
+-- there is room for so many changes where a change puts something; the queues have these rooms
+abbrev pub HasRoomIn : {P : Type 0} → ℕ → Rooms → List ℕ → Change P → Type 0
+HasRoomIn n r rooms (Install name chart) = n ≤ r.charts
+HasRoomIn n r rooms (Start name session) = n ≤ r.sessions
+HasRoomIn n r rooms (Bear invoker name session) = (n ≤ r.sessions) × (n ≤ room_at r.children invoker)
+HasRoomIn n r rooms (Queue place e) = n ≤ room_at rooms place
+HasRoomIn n r rooms (Tell place e) = n ≤ room_at r.failures place
+HasRoomIn n r rooms (Delay send) = n ≤ r.timers
+HasRoomIn n r rooms (Fire place id) = n ≤ room_at r.queued place
+HasRoomIn n r rooms c = Unit {0}
 
--- there is room for so many changes where a change puts something
-abbrev pub HasRoomIn : {P : Type 0} → ℕ → Rooms → Change P → Type 0
-HasRoomIn n r (Install name chart) = n ≤ r.charts
-HasRoomIn n r (Start name session) = n ≤ r.sessions
-HasRoomIn n r (Queue place e) = n ≤ room_at r.queued place
-HasRoomIn n r (Tell place e) = n ≤ room_at r.failures place
-HasRoomIn n r (Delay send) = n ≤ r.timers
-HasRoomIn n r (Fire place id) = n ≤ room_at r.queued place
-HasRoomIn n r c = Unit {0}
+abbrev pub HaveRoomOfIn : {P : Type 0} → ℕ → Rooms → List ℕ → List (Change P) → Type 0
+HaveRoomOfIn n r rooms [] = Unit {0}
+HaveRoomOfIn n r rooms (c ∷ cs) = HasRoomIn n r rooms c × HaveRoomOfIn n r rooms cs
 
+-- the sessions that are started have queues with room too
 abbrev pub HaveRoomIn : {P : Type 0} → ℕ → Rooms → List (Change P) → Type 0
-HaveRoomIn n r [] = Unit {0}
-HaveRoomIn n r (c ∷ cs) = HasRoomIn n r c × HaveRoomIn n r cs
+HaveRoomIn n r cs = HaveRoomOfIn n r (r.queued ++ new_rooms cs) cs
 
 -- each change can be made of the host machine that the ones before it leave, within the room that there is
 pub record CanInstall {P : Type 0} (chart_of : P → Chart) (h : HostOf) (changes : List (Change P)) : Type 0 where
@@ -72,5 +75,6 @@ pub record CanInstall {P : Type 0} (chart_of : P → Chart) (h : HostOf) (change
 pub record CanMake {P : Type 0} (chart_of : P → Chart) (g : HostImage) (changes : List (Change P)) : Type 0 where
   pub can : CanApplyAll g changes
   pub targets : HaveTargets (length g.sessions) changes
+  pub roomy : AreRoomy (length g.sessions) changes
   pub plans : ArePlanned chart_of changes
   pub sound : IsSound (installed changes g)

@@ -1,4 +1,5 @@
 pub mod Aims
+pub mod Births
 pub mod Bodies
 pub mod Changes
 pub mod Commands
@@ -6,10 +7,13 @@ pub mod Counting
 pub mod Cues
 pub mod Deliveries
 pub mod Drafts
+pub mod Endings
 pub mod FittingHosts
 pub mod Histories
 pub mod Hosts
 pub mod Installing
+pub mod Newborns
+pub mod Parting
 pub mod Preparing
 pub mod Stepping
 pub mod Ticking

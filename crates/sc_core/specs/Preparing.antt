@@ -14,7 +14,7 @@ use Rattle.sc_core.specs.Commands.{Answer, refused, step}
 use Rattle.sc_core.specs.Cues.{cue_of}
 use Rattle.sc_core.specs.Hosts.{chart_named, session_named}
 use Rattle.sc_core.specs.HostStates.{ArePlanned}
-use Rattle.sc_core.specs.Installing.{CanApplyAll, HaveTargets, installed}
+use Rattle.sc_core.specs.Installing.{AreRoomy, CanApplyAll, HaveTargets, installed}
 use Rattle.sc_core.specs.declared.change.Change.{Change}
 use Rattle.sc_core.specs.declared.prepared.Prepared.{Prepared}
 
@@ -26,6 +26,7 @@ pub record Prepares {P : Type 0} (a : Answer) (g : HostImage) (p : Prepared P) :
   pub sent : p.sent ≡ a.sent
   pub can : CanApplyAll g p.changes
   pub targets : HaveTargets (length g.sessions) p.changes
+  pub roomy : AreRoomy (length g.sessions) p.changes
 
 -- no change installs a chart
 abbrev pub InstallNone : {P : Type 0} → List (Change P) → Type 0

@@ -1,4 +1,4 @@
-ghost use Rattle.std.specs.Prelude.{◌≡◌, ◌+◌, ◌^◌, ◌<◌, ◌≤◌, All, List, [], ◌∷◌, ◌++◌, None, Some, MatchOption, drop, length};
+ghost use Rattle.std.specs.Prelude.{◌≡◌, ◌+◌, ◌^◌, ◌<◌, ◌≤◌, All, List, [], ◌∷◌, ◌++◌, None, Some, MatchOption, drop, length, slice_get};
 ghost use Rattle.sc_rooms.specs.Rooms.{place_of};
 ghost use Rattle.sc_core.specs.Bodies.{Agrees, Makes, image, queue_room};
 ghost use Rattle.sc_core.specs.Changes.{IsFirstDue, fire_at, lose, with_chart, with_invokeid, with_send_pending, with_started, without_sends};
@@ -47,9 +47,12 @@ impl<P: Drop> Body<P> {
         requires agrees { Agrees self.old }
         requires name { session.state.session ≡ name }
         requires new { place_of name self.old.sessions.names ≡ None }
+        requires invoker { session.invoker ≡ None }
+        requires children { session.children.items ≡ [] }
         requires ready { 0 < self.old.ready.spare }
         requires room { 0 < self.old.sessions.spare }
         ensures makes { Makes (with_started (image self.old) session) self.old self.new }
+        ensures newest { slice_get self.new.sessions.items (length self.old.sessions.items) ≡ Some session }
         ensures charts { self.new.charts.items ≡ self.old.charts.items }
     {
         mark(&mut self.ready, self.sessions.len(), is_ready(&session));

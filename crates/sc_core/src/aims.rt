@@ -1,15 +1,18 @@
-ghost use Rattle.std.specs.Prelude.{◌≡◌, ◌==◌, if◌then◌else◌, Some, IfOk, length, option_map, slice_get};
+ghost use Rattle.std.specs.Prelude.{ℕ, ◌≡◌, ◌==◌, if◌then◌else◌, Some, IfOk, length, option_map, slice_get};
 ghost use Rattle.std.specs.Option.{option_copied};
 ghost use Rattle.sc_core.specs.Aims.{AimsWithin, aim, aim_found, invokeid_for};
+ghost use Rattle.sc_core.specs.Births.{IsGrown, birth_place};
 ghost use Rattle.sc_core.specs.Bodies.{Agrees, image};
 ghost use Rattle.sc_core.specs.Changes.{put_state};
 ghost use Rattle.sc_core.specs.Deliveries.{is_cut_from, receiver_name, while_live};
 ghost use Rattle.sc_core.specs.Hosts.{is_live, session_named};
+ghost use Rattle.sc_types.specs.declared.host.HostImage.{HostImage};
 ghost use Rattle.sc_types.specs.declared.host.SessionImage.{SessionImage};
 
 use crate::body::Body;
+use crate::draft::Placed;
 use crate::session::{Session, is_live};
-use sc_base::{NoMemory, Plain, SharedBytes, Word};
+use sc_base::{NoMemory, Plain, Sequence, SharedBytes, Word};
 use sc_types::{InvokerImage, Phase, SessionState, To};
 
 /// Where an event goes that a session sends.
@@ -24,7 +27,7 @@ pub(crate) enum Aim {
 }
 
 /// The name of the receiver, where there is one.
-fn receiver_name<'a>(
+pub(crate) fn receiver_name<'a>(
     own: &'a Word,
     invoker: &'a Option<InvokerImage>,
     who: &'a To,
@@ -45,7 +48,7 @@ fn receiver_name<'a>(
 }
 
 /// Whether the session of this name is cut off from the one that it invoked.
-fn is_cut_from(invoker: &Option<InvokerImage>, name: &Word) -> bool
+pub(crate) fn is_cut_from(invoker: &Option<InvokerImage>, name: &Word) -> bool
     ensures { (s : SessionImage) → s.invoker ≡ invoker.now → result ≡ is_cut_from s name.now }
 {
     match invoker {
@@ -81,7 +84,42 @@ fn takes_events(found: usize, session: &Session, place: usize, phase: &Phase) ->
     is_live(&session.state.phase)
 }
 
+/// The place of a session that is born in the step under way.
+pub(crate) fn birth_place(births: &Sequence<Placed>, name: &Word) -> Option<usize>
+    ensures { result ≡ birth_place births.now name.now }
+{
+    let found = births
+        .slice()
+        .iter()
+        .find(|birth| birth.name.bytes() == name.bytes())?;
+    Some(found.place)
+}
+
 impl<P: Drop> Body<P> {
+    /// The place of the session of a name while it lives, once the state of the session at a place is this one, and these
+    /// are born.
+    pub(crate) fn live_place(
+        &self,
+        births: &Sequence<Placed>,
+        place: usize,
+        state: &SessionState,
+        name: &Word,
+    ) -> Option<usize>
+        requires agrees { Agrees self.now }
+        requires there { option_map (λ (s : SessionImage). s.state.session) (slice_get (image self.now).sessions place)
+            ≡ Some state.now.session }
+        ensures { (h : HostImage) → IsGrown (put_state (image self.now) place state.now) births.now h
+            → result ≡ option_map (λ (found : ℕ × SessionImage). found.0) (while_live (session_named h name.now)) }
+    {
+        let Some((found, session)) = self.session_named(name) else {
+            return birth_place(births, name);
+        };
+        if !takes_events(found, session, place, &state.phase) {
+            return None;
+        }
+        Some(found)
+    }
+
     /// Where an event goes that is sent to the session of a name, once the state of the session at a place is this one.
     fn aim_at(&self, place: usize, state: &SessionState, name: &Word) -> Aim
         requires agrees { Agrees self.now }

@@ -1,6 +1,6 @@
 ghost use Rattle.std.specs.Prelude.{◌≡◌, ◌≤◌, length};
 ghost use Rattle.sc_core.specs.Bodies.{Agrees, Makes, image};
-ghost use Rattle.sc_core.specs.Installing.{CanApply, CanApplyAll, HasRoom, HaveRoom, apply, charts_after, charts_with, installed};
+ghost use Rattle.sc_core.specs.Installing.{CanApply, CanApplyAll, HasRoom, HaveRoom, IsNewest, apply, charts_after, charts_with, installed, queue_rooms};
 
 use crate::body::{Body, InstalledChart};
 use crate::session::Session;
@@ -27,6 +27,12 @@ pub enum Change<P> {
         name: Word,
         session: Session,
     },
+    /// A session is started that the one at a place invoked.
+    Bear {
+        invoker: usize,
+        name: Word,
+        session: Session,
+    },
     /// The state of the session at a place is replaced.
     PutState {
         place: usize,
@@ -49,6 +55,15 @@ pub enum Change<P> {
     /// The next turn of a session is to end it.
     Flag {
         place: usize,
+    },
+    /// The next turn of a session is to end it, and it and its invoker hear no more of one another.
+    CutOff {
+        place: usize,
+    },
+    /// The invocation of a child leaves the list of those that run.
+    DropInvoke {
+        place: usize,
+        child: Word,
     },
     /// A session that has ended is cleared.
     End {
@@ -78,8 +93,9 @@ impl<P: Drop> Body<P> {
         requires agrees { Agrees self.old }
         requires can { CanApply (image self.old) change }
         requires ready { 1 ≤ self.old.ready.spare }
-        requires room { HasRoom 1 self.old change }
+        requires room { HasRoom 1 self.old (queue_rooms self.old) change }
         ensures makes { Makes (apply change (image self.old)) self.old self.new }
+        ensures newest { IsNewest self.old self.new change }
         ensures charts { self.new.charts.items ≡ charts_with change self.old.charts.items }
     {
         match change {
@@ -87,11 +103,18 @@ impl<P: Drop> Body<P> {
             Change::Advance { clock } => self.advance(clock),
             Change::Install { name, chart } => self.install_chart(name, chart),
             Change::Start { name, session } => self.start(name, session),
+            Change::Bear {
+                invoker,
+                name,
+                session,
+            } => self.bear(invoker, name, session),
             Change::PutState { place, state } => self.put_state(place, state),
             Change::TakeFront { place } => self.take_front(place),
             Change::Queue { place, event } => self.queue(place, event),
             Change::Tell { place, event } => self.tell(place, event),
             Change::Flag { place } => self.flag(place),
+            Change::CutOff { place } => self.cut_off(place),
+            Change::DropInvoke { place, child } => self.drop_invoke(place, &child),
             Change::End { place } => self.end(place),
             Change::Delay { send } => self.delay(send),
             Change::Undo { session, id } => self.undo(&session, &id),

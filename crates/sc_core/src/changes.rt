@@ -1,8 +1,7 @@
 ghost use Rattle.std.specs.Prelude.{◌≡◌, ◌+◌, ◌^◌, ◌<◌, ◌≤◌, Some, false, length, not, slice_get};
 ghost use Rattle.std.specs.Option.{option_map_or};
 ghost use Rattle.sc_core.specs.Bodies.{Agrees, Makes, failure_room, image, marked, queue_room};
-ghost use Rattle.sc_core.specs.Changes.{flag, put_state, queue_at, take_front, tell};
-ghost use Rattle.sc_core.specs.Deliveries.{end_at};
+ghost use Rattle.sc_core.specs.Changes.{clear_at, flag, put_state, queue_at, take_front, tell};
 ghost use Rattle.sc_core.specs.Hosts.{is_live};
 ghost use Rattle.sc_core.specs.declared.session.Session.{Session};
 
@@ -115,7 +114,7 @@ impl<P: Drop> Body<P> {
         requires agrees { Agrees self.old }
         requires within { place < length self.old.sessions.items }
         requires ready { 0 < self.old.ready.spare }
-        ensures makes { Makes (end_at (image self.old) place) self.old self.new }
+        ensures makes { Makes (clear_at (image self.old) place) self.old self.new }
         ensures charts { self.new.charts.items ≡ self.old.charts.items }
     {
         if !self.has_ended(place) {

@@ -1,15 +1,24 @@
 ghost use Rattle.std.specs.Prelude.{◌≡◌, []};
 
 use crate::change::Change;
-use sc_base::{Queue, Sequence};
+use sc_base::{Queue, Sequence, Word};
 use sc_types::Delivery;
 use std::alloc::Global;
+
+/// A session by its name and its place.
+#[derive(Debug, Drop)]
+pub struct Placed {
+    pub(crate) name: Word,
+    pub(crate) place: usize,
+}
 
 /// What is prepared of a step's effects so far: the changes, and what becomes of each effect.
 #[derive(Drop)]
 pub struct Draft<P> {
     pub(crate) changes: Queue<Change<P>>,
     pub(crate) sent: Sequence<Delivery>,
+    /// The sessions that are born by then, in order.
+    pub(crate) births: Sequence<Placed>,
     /// How many events have numbers by then.
     pub(crate) events: u128,
     /// How many sends are delayed by then.
@@ -19,11 +28,12 @@ pub struct Draft<P> {
 impl<P: Drop> Draft<P> {
     /// Before the first effect.
     pub(crate) fn new(alloc: Global, events: u128, delayed: u64) -> Draft<P>
-        ensures { result ≡ record { changes = []; sent = []; events = events; delayed = delayed } }
+        ensures { result ≡ record { changes = []; sent = []; births = []; events = events; delayed = delayed } }
     {
         Draft {
             changes: Queue::new(alloc),
             sent: Sequence::new(alloc),
+            births: Sequence::new(alloc),
             events,
             delayed,
         }

@@ -1,22 +1,22 @@
-ghost use Rattle.std.specs.Prelude.{◌≡◌, ◌+◌, ◌-◌, ◌^◌, ◌<◌, ◌≤◌, ◌&&◌, nat_lt, Some, IfOk, IfSome, OnOk, count_by, length, option_map, slice_get};
-ghost use Rattle.sc_core.specs.Aims.{carried};
+ghost use Rattle.std.specs.Prelude.{ℕ, ◌≡◌, ◌++◌, [], ◌∷◌, ◌+◌, ◌-◌, ◌^◌, ◌<◌, ◌≤◌, ◌&&◌, nat_lt, Some, IfOk, IfSome, OnOk, count_by, length, option_map, slice_get};
 ghost use Rattle.sc_core.specs.Bodies.{Agrees, image, session_image};
 ghost use Rattle.sc_core.specs.Counting.{count_after};
-ghost use Rattle.sc_core.specs.Deliveries.{delay_send, deliver, deliver_of, send_now, undo, unreachable};
-ghost use Rattle.sc_core.specs.Drafts.{Drafts, IsDraft, IsSender, Notes, so_far};
+ghost use Rattle.sc_core.specs.Deliveries.{delay_send, deliver, deliver_of, send_named, send_now, undo, unreachable};
+ghost use Rattle.sc_core.specs.Drafts.{Drafts, IsDraft, IsSender, Notes, so_far, stepper};
 ghost use Rattle.sc_core.specs.Hosts.{is_live};
-ghost use Rattle.sc_core.specs.declared.aims.Aim.TheVariants as aim;
+ghost use Rattle.sc_core.specs.declared.change.Change.TheVariants as change;
 ghost use Rattle.sc_types.specs.Sends.{is_send};
 ghost use Rattle.sc_types.specs.declared.event.Event.{Event};
 ghost use Rattle.sc_types.specs.declared.host.HostImage.{HostImage};
 ghost use Rattle.sc_types.specs.declared.host.SessionImage.{SessionImage};
 
 use crate::additions::with_invokeid;
-use crate::aims::{Aim, invokeid_for};
+use crate::aims::{invokeid_for, is_cut_from, receiver_name};
 use crate::body::Body;
 use crate::change::Change;
 use crate::draft::Draft;
 use crate::failures::communication_error;
+use crate::invocations::Invocation;
 use crate::session::{is_live, is_running};
 use sc_base::{NoMemory, Plain, SharedBytes, Word};
 use sc_types::{Delivery, Effect, Event, InvokerImage, Phase, SessionState, TimerImage, To};
@@ -60,7 +60,7 @@ fn count_after<P>(
 
 impl<P: Drop> Body<P> {
     /// The invoker of the session at a place.
-    fn invoker_at(&self, place: usize) -> &Option<InvokerImage>
+    pub(crate) fn invoker_at(&self, place: usize) -> &Option<InvokerImage>
         requires within { place < length self.now.sessions.items }
         ensures { option_map (λ (s : SessionImage). s.invoker) (slice_get (image self.now).sessions place) ≡ Some result.now }
     {
@@ -81,7 +81,7 @@ impl<P: Drop> Body<P> {
     ) -> Result<Delivery, NoMemory>
         ensures told { IfOk result (λ told. (g : HostImage) (t : SessionImage) (e : Event)
             → IsSender (image self.now) place after.now g draft.old t → e.sendid ≡ sendid.now
-            → Drafts after.now.session g draft.old draft.new (unreachable (so_far g draft.old) place t e) told) }
+            → Drafts (stepper after.now.session place) g draft.old draft.new (unreachable (so_far g draft.old) place t e) told) }
         ensures number { OnOk result (draft.new.events ≤ draft.old.events + 1) }
     {
         if !is_running(&after.phase) {
@@ -92,41 +92,56 @@ impl<P: Drop> Body<P> {
         Ok(Delivery::Unreachable)
     }
 
-    /// Prepares that an event reaches the session at a place.
-    fn draft_queue(
+    /// Prepares that an event joins the external queue of the session at a place.
+    pub(crate) fn draft_queue(
         &self,
         draft: &mut Draft<P>,
-        sender: usize,
-        after: &SessionState,
-        receiver: usize,
+        place: usize,
+        session: Word,
         event: Event,
     ) -> Result<Delivery, NoMemory>
-        requires sender { sender < length self.now.sessions.items }
-        requires there { option_map (λ (s : SessionImage). s.state.session) (slice_get (image self.now).sessions sender)
+        requires number { draft.old.events + 1 < 2 ^ 128 }
+        ensures made { IfOk result (λ told. (draft.new ≡ record draft.old {
+            changes = draft.old.changes ++ change.Queue place event ∷ [];
+            events = draft.old.events + 1;
+        }) × (told ≡ Delivery.Queued (draft.old.events + 1) session)) }
+    {
+        let number = draft.events + 1;
+        draft.changes.push(Change::Queue { place, event })?;
+        draft.events = number;
+        Ok(Delivery::Queued { number, session })
+    }
+
+    /// Prepares that the session at a place sends an event to the session of a name.
+    fn draft_named(
+        &self,
+        alloc: Global,
+        draft: &mut Draft<P>,
+        place: usize,
+        after: &SessionState,
+        name: &Word,
+        event: Event,
+    ) -> Result<Delivery, NoMemory>
+        requires agrees { Agrees self.now }
+        requires within { place < length self.now.sessions.items }
+        requires there { option_map (λ (s : SessionImage). s.state.session) (slice_get (image self.now).sessions place)
             ≡ Some after.now.session }
-        requires receiver { receiver < length self.now.sessions.items }
         requires number { draft.old.events + 1 < 2 ^ 128 }
         ensures told { IfOk result (λ told. (g : HostImage) (t : SessionImage)
-            → IsSender (image self.now) sender after.now g draft.old t
-            → Drafts after.now.session g draft.old draft.new
-            (carried (so_far g draft.old) sender t event (aim.Reaches receiver)) told) }
+            → IsSender (image self.now) place after.now g draft.old t
+            → Drafts (stepper after.now.session place) g draft.old draft.new
+            (send_named (so_far g draft.old) place t event (Some name.now)) told) }
         ensures number { OnOk result (draft.new.events ≤ draft.old.events + 1) }
     {
-        let Some(session) = self.sessions.get(receiver) else {
-            unreachable!();
+        let invoker = self.invoker_at(place);
+        if is_cut_from(invoker, name) {
+            return Ok(Delivery::Dropped);
+        }
+        let Some(receiver) = self.live_place(&draft.births, place, after, name) else {
+            return self.draft_failure(alloc, draft, place, after, &event.sendid);
         };
-        let name = session.state.session.copy()?;
-        let invokeid = invokeid_for(self.invoker_at(sender), &name)?;
-        let number = draft.events + 1;
-        draft.changes.push(Change::Queue {
-            place: receiver,
-            event: with_invokeid(event, invokeid),
-        })?;
-        draft.events = number;
-        Ok(Delivery::Queued {
-            number,
-            session: name,
-        })
+        let invokeid = invokeid_for(invoker, name)?;
+        self.draft_queue(draft, receiver, name.copy()?, with_invokeid(event, invokeid))
     }
 
     /// Prepares that the session at a place sends an event.
@@ -146,13 +161,13 @@ impl<P: Drop> Body<P> {
         requires number { draft.old.events + 1 < 2 ^ 128 }
         ensures told { IfOk result (λ told. (g : HostImage) (t : SessionImage)
             → IsSender (image self.now) place after.now g draft.old t
-            → Drafts after.now.session g draft.old draft.new (send_now (so_far g draft.old) place t to.now event) told) }
+            → Drafts (stepper after.now.session place) g draft.old draft.new
+            (send_now (so_far g draft.old) place t to.now event) told) }
         ensures number { OnOk result (draft.new.events ≤ draft.old.events + 1) }
     {
-        match self.aim(place, after, self.invoker_at(place), to) {
-            Aim::Reaches(receiver) => self.draft_queue(draft, place, after, receiver, event),
-            Aim::Fails => self.draft_failure(alloc, draft, place, after, &event.sendid),
-            Aim::Drops => Ok(Delivery::Dropped),
+        match receiver_name(&after.session, self.invoker_at(place), to) {
+            Some(name) => self.draft_named(alloc, draft, place, after, name, event),
+            None => self.draft_failure(alloc, draft, place, after, &event.sendid),
         }
     }
 
@@ -168,7 +183,7 @@ impl<P: Drop> Body<P> {
     ) -> Result<Delivery, NoMemory>
         ensures told { IfOk result (λ told. (g : HostImage) (t : SessionImage)
             → IsSender (image self.now) place after.now g draft.old t
-            → Drafts after.now.session g draft.old draft.new (delay_send (so_far g draft.old) t to event delay) told) }
+            → Drafts (stepper after.now.session place) g draft.old draft.new (delay_send (so_far g draft.old) t to event delay) told) }
         ensures number { OnOk result (draft.new.events ≤ draft.old.events + 1) }
     {
         if !may_delay(&after.phase, draft.delayed) {
@@ -190,8 +205,8 @@ impl<P: Drop> Body<P> {
 
     /// How many sends of a session have an id after the changes so far.
     fn pending(&self, draft: &Draft<P>, session: &Word, id: &SharedBytes) -> Result<u64, NoMemory>
-        ensures { IfOk result (λ n. (g : HostImage) → g.timers ≡ self.now.timers.sends → IsDraft session.now g draft.now
-            → n ≡ count_by (is_send session.now id.now) (so_far g draft.now).timers) }
+        ensures { IfOk result (λ n. (g : HostImage) (place : ℕ) → g.timers ≡ self.now.timers.sends
+            → IsDraft (stepper session.now place) g draft.now → n ≡ count_by (is_send session.now id.now) (so_far g draft.now).timers) }
     {
         let mut count = self.timers.count(session.bytes(), id.slice());
         let mut place = 0;
@@ -214,7 +229,7 @@ impl<P: Drop> Body<P> {
     ) -> Result<Delivery, NoMemory>
         ensures told { IfOk result (λ told. (g : HostImage) (t : SessionImage)
             → IsSender (image self.now) place after.now g draft.old t
-            → Drafts after.now.session g draft.old draft.new (undo (so_far g draft.old) t sendid) told) }
+            → Drafts (stepper after.now.session place) g draft.old draft.new (undo (so_far g draft.old) t sendid) told) }
         ensures number { OnOk result (draft.new.events ≤ draft.old.events + 1) }
     {
         if sendid.slice().is_empty() {
@@ -244,7 +259,7 @@ impl<P: Drop> Body<P> {
         requires number { draft.old.events + 1 < 2 ^ 128 }
         ensures told { IfOk result (λ told. (g : HostImage) (t : SessionImage)
             → IsSender (image self.now) place after.now g draft.old t
-            → Drafts after.now.session g draft.old draft.new (deliver_of (so_far g draft.old) place t effect) told) }
+            → Drafts (stepper after.now.session place) g draft.old draft.new (deliver_of (so_far g draft.old) place t effect) told) }
         ensures number { OnOk result (draft.new.events ≤ draft.old.events + 1) }
     {
         match effect {
@@ -257,7 +272,24 @@ impl<P: Drop> Body<P> {
                 self.draft_delay(draft, place, after, to, event, delay)
             }
             Effect::CancelSend { sendid } => self.draft_undo(draft, place, after, sendid),
-            _ => Ok(Delivery::Nothing),
+            Effect::Invoke {
+                invokeid,
+                child,
+                chart,
+                pairs,
+            } => {
+                let invocation = Invocation {
+                    invokeid,
+                    child,
+                    chart,
+                    pairs,
+                };
+                self.draft_invoke(alloc, draft, place, after, invocation)
+            }
+            Effect::CancelChild { child } => self.draft_cancel_child(draft, place, after, child),
+            Effect::Forward { child, event } => {
+                self.draft_forward(draft, place, after, child, event)
+            }
         }
     }
 
@@ -277,7 +309,7 @@ impl<P: Drop> Body<P> {
         requires number { draft.old.events + 1 < 2 ^ 128 }
         ensures notes { OnOk result ((g : HostImage) (t : SessionImage)
             → IsSender (image self.now) place after.now g draft.old t
-            → Notes after.now.session g draft.old draft.new (deliver (so_far g draft.old) place effect)) }
+            → Notes (stepper after.now.session place) g draft.old draft.new (deliver (so_far g draft.old) place effect)) }
         ensures number { OnOk result (draft.new.events ≤ draft.old.events + 1) }
     {
         let what = self.draft_delivery(alloc, draft, place, after, effect)?;

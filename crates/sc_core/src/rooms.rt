@@ -1,6 +1,6 @@
 ghost use Rattle.std.specs.Prelude.{◌≡◌, ◌≤◌, ◌<◌, length, OnOk};
-ghost use Rattle.sc_core.specs.Bodies.{Agrees, Keeps, failure_room, image, queue_room};
-ghost use Rattle.sc_core.specs.Installing.{HasRoom, HasTarget, HaveRoom, HaveTargets};
+ghost use Rattle.sc_core.specs.Bodies.{Agrees, Keeps, children_room, failure_room, image, queue_room};
+ghost use Rattle.sc_core.specs.Installing.{AreRoomy, IsMadeFor, HasTarget, HaveRoom, HaveTargets};
 
 use crate::body::Body;
 use crate::change::Change;
@@ -29,18 +29,46 @@ impl<P: Drop> Body<P> {
         self.sessions.item_mut(place).failures.reserve(count)
     }
 
+    /// Makes room for so many more children of the session at a place.
+    fn reserve_children(&mut self, place: usize, count: usize) -> Result<(), NoMemory>
+        requires agrees { Agrees self.old }
+        requires within { place < length self.old.sessions.items }
+        ensures keeps { Keeps self.old self.new }
+        ensures charts { self.new.charts.items ≡ self.old.charts.items }
+        ensures ok { OnOk result (count ≤ children_room self.new place) }
+    {
+        self.sessions.item_mut(place).children.reserve(count)
+    }
+
+    /// Makes room for so many more events in the external queue of the session at a place, where it is there already.
+    fn reserve_target(&mut self, place: usize, count: usize) -> Result<(), NoMemory>
+        requires agrees { Agrees self.old }
+        ensures keeps { Keeps self.old self.new }
+        ensures charts { self.new.charts.items ≡ self.old.charts.items }
+        ensures ok { OnOk result (place < length self.old.sessions.items → count ≤ queue_room self.new place) }
+    {
+        if place >= self.sessions.len() {
+            return Ok(());
+        }
+        self.reserve_queue(place, count)
+    }
+
     /// Makes room for so many changes where one puts something.
     fn make_room_for(&mut self, change: &Change<P>, count: usize) -> Result<(), NoMemory>
         requires agrees { Agrees self.old }
         requires target { HasTarget (length self.old.sessions.items) change.now }
         ensures keeps { Keeps self.old self.new }
         ensures charts { self.new.charts.items ≡ self.old.charts.items }
-        ensures ok { OnOk result (HasRoom count self.new change.now) }
+        ensures ok { OnOk result (IsMadeFor count self.new change.now) }
     {
         match change {
             Change::Install { .. } => self.charts.reserve(count),
             Change::Start { .. } => self.sessions.reserve(count),
-            Change::Queue { place, .. } => self.reserve_queue(*place, count),
+            Change::Bear { invoker, .. } => {
+                self.sessions.reserve(count)?;
+                self.reserve_children(*invoker, count)
+            }
+            Change::Queue { place, .. } => self.reserve_target(*place, count),
             Change::Tell { place, .. } => self.reserve_failures(*place, count),
             Change::Delay { .. } => self.timers.reserve(count),
             Change::Fire { place, .. } => self.reserve_queue(*place, count),
@@ -52,6 +80,7 @@ impl<P: Drop> Body<P> {
     pub(crate) fn make_room(&mut self, changes: &Queue<Change<P>>) -> Result<(), NoMemory>
         requires agrees { Agrees self.old }
         requires targets { HaveTargets (length self.old.sessions.items) changes.now }
+        requires roomy { AreRoomy (length self.old.sessions.items) changes.now }
         ensures keeps { Keeps self.old self.new }
         ensures charts { self.new.charts.items ≡ self.old.charts.items }
         ensures ready { OnOk result (length changes.now ≤ self.new.ready.spare) }

@@ -18,6 +18,8 @@ pub struct Session {
     pub(crate) flagged: bool,
     pub(crate) invoker: Option<InvokerImage>,
     pub(crate) depth: u32,
+    /// The places of the sessions that it invoked, in order of start.
+    pub(crate) children: RoomyQueue<usize>,
 }
 
 /// Whether a session has a cue.

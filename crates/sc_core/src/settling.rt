@@ -12,6 +12,7 @@ fn settle(session: &mut Session) -> Result<(), NoMemory>
     ensures image { session_image session.new ≡ session_image session.old }
     ensures settled { OnOk result (session.new.failures.items ≡ []) }
     ensures queued { session.new.queued ≡ session.old.queued }
+    ensures children { session.new.children ≡ session.old.children }
     ensures spare { session.old.failures.spare ≤ session.new.failures.spare }
 {
     while let Some(event) = session.failures.front() {

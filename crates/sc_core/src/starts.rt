@@ -16,7 +16,7 @@ use crate::session::Session;
 use sc_base::{Bytes, NoMemory, Plain, Queue, Sequence, Word};
 use sc_law::Engine;
 use sc_rooms::RoomyQueue;
-use sc_types::{ChartImage, ChartRefusal, NAME_LIMIT, Phase, Refusal, Reply, SessionState};
+use sc_types::{ChartImage, ChartRefusal, NAME_LIMIT, PairList, Phase, Refusal, Reply, SessionState};
 use sc_valid::LegalChart;
 use std::alloc::Global;
 
@@ -142,8 +142,14 @@ fn has_slash(name: &[u8]) -> bool
     name.iter().any(|b| *b == b'/')
 }
 
-fn fresh_state(alloc: Global, session: &Word, chart: &Word) -> Result<SessionState, NoMemory>
-    ensures { IfOk result (λ s. s ≡ fresh_state session.now chart.now []) }
+/// A session that was not stepped yet, with what it is started with.
+pub(crate) fn fresh_state(
+    alloc: Global,
+    session: &Word,
+    chart: &Word,
+    params: PairList,
+) -> Result<SessionState, NoMemory>
+    ensures { IfOk result (λ s. s ≡ fresh_state session.now chart.now params) }
 {
     Ok(SessionState {
         session: session.copy()?,
@@ -156,21 +162,23 @@ fn fresh_state(alloc: Global, session: &Word, chart: &Word) -> Result<SessionSta
         internal: Queue::new(alloc),
         invokes: Sequence::new(alloc),
         bound: None,
-        params: Sequence::new(alloc),
+        params,
         sends: 0,
         born: 0,
     })
 }
 
 fn fresh_session(alloc: Global, session: &Word, chart: &Word) -> Result<Session, NoMemory>
-    ensures { IfOk result (λ s. session_image s ≡ fresh_session session.now chart.now) }
+    ensures image { IfOk result (λ s. session_image s ≡ fresh_session session.now chart.now) }
+    ensures children { IfOk result (λ s. s.children.items ≡ []) }
 {
     Ok(Session {
-        state: fresh_state(alloc, session, chart)?,
+        state: fresh_state(alloc, session, chart, Sequence::new(alloc))?,
         failures: RoomyQueue::new(alloc),
         queued: RoomyQueue::new(alloc),
         flagged: false,
         invoker: None,
         depth: 1,
+        children: RoomyQueue::new(alloc),
     })
 }

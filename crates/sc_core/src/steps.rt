@@ -2,7 +2,7 @@ ghost use Rattle.std.specs.Prelude.{◌≡◌, ◌+◌, ◌^◌, ◌<◌, ◌≤
 ghost use Rattle.sc_core.specs.Bodies.{Agrees, image};
 ghost use Rattle.sc_core.specs.Commands.{step_turn};
 ghost use Rattle.sc_core.specs.Deliveries.{deliver_all};
-ghost use Rattle.sc_core.specs.Drafts.{AreNumbered, DraftsAll, IsBase};
+ghost use Rattle.sc_core.specs.Drafts.{AreNumbered, DraftsAll, IsBase, stepper};
 ghost use Rattle.sc_core.specs.Preparing.{InstallNone, Prepares};
 ghost use Rattle.sc_core.specs.Stepping.{put_changes};
 ghost use Rattle.sc_types.specs.declared.host.HostImage.{HostImage};
@@ -12,6 +12,7 @@ use crate::body::Body;
 use crate::change::Change;
 use crate::cues::name_of;
 use crate::draft::Draft;
+use crate::newborns::with_rooms;
 use crate::prepared::Prepared;
 use sc_base::{NoMemory, Queue, Sequence};
 use sc_law::Turned;
@@ -36,6 +37,16 @@ fn put_changes<P: Drop>(
         changes.push(Change::TakeFront { place })?;
     }
     Ok(changes)
+}
+
+/// How many changes a step makes at most, of which so many are those of its effects and of its end.
+fn step_count(count: usize) -> Result<usize, NoMemory>
+    ensures { IfOk result (λ n. n ≡ count + 3) }
+{
+    match count.checked_add(3) {
+        Some(all) => Ok(all),
+        None => Err(NoMemory),
+    }
 }
 
 /// Puts changes behind others.
@@ -65,8 +76,9 @@ impl<P: Drop> Body<P> {
         requires there { option_map (λ (s : SessionImage). s.state.session) (slice_get (image self.now).sessions place)
             ≡ Some after.now.session }
         requires events { self.now.events + length effects < 2 ^ 128 }
-        ensures { IfOk result (λ d. (g : HostImage) → IsBase (image self.now) place after.now g
-            → DraftsAll after.now.session g d (deliver_all g place effects)) }
+        ensures all { IfOk result (λ d. (g : HostImage) → IsBase (image self.now) place after.now g
+            → DraftsAll (stepper after.now.session place) g d (deliver_all g place effects)) }
+        ensures number { IfOk result (λ d. d.events ≤ self.now.events + length effects) }
     {
         let mut draft = Draft::new(alloc, self.events, self.delayed);
         for effect in effects.into_vec() {
@@ -96,10 +108,14 @@ impl<P: Drop> Body<P> {
         ensures none { IfOk result (λ p. InstallNone p.changes) }
     {
         let (after, effects, logs) = turned.into_parts();
-        let draft = self.draft_effects(alloc, place, &after, effects)?;
+        // A length fits a usize, so the numbers of events cannot run out.
+        let _count = effects.len();
+        let mut draft = self.draft_effects(alloc, place, &after, effects)?;
+        self.draft_end(alloc, &mut draft, place, &after)?;
         let mut changes = put_changes(alloc, place, cue, after)?;
-        append(&mut changes, draft.changes)?;
-        changes.push(Change::End { place })?;
+        let count = step_count(draft.changes.len())?;
+        let more = with_rooms(alloc, draft.changes, self.sessions.len(), count)?;
+        append(&mut changes, more)?;
         changes.push(Change::Count)?;
         Ok(Prepared {
             changes,

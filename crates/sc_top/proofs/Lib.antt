@@ -1,4 +1,3 @@
-pub mod InvokingLemmas
 pub mod Promise
 pub mod ReportLemmas
 pub mod RunLemmas

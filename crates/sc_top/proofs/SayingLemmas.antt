@@ -1,14 +1,13 @@
 -- From what was read to what a status promises of what is said.
-use Rattle.std.proofs.Common.{◌≡◌, ℕ, Option, Some, List, Result, Ok, Err, IfOk, IsTrue, not, refl, sym, subst}
+use Rattle.std.proofs.Common.{◌≡◌, ℕ, Option, Some, List, Result, Ok, Err, IfOk, refl, sym, subst}
 use Rattle.sc_law.specs.LegalCharts.{legal_chart_of}
 use Rattle.sc_types.specs.declared.chart.Chart.{Chart}
 use Rattle.sc_types.specs.declared.chart.ChartFault.{ChartFault}
 use Rattle.sc_script.specs.Scripts.{Spelled, script_of}
 use Rattle.sc_script.specs.declared.script.Script.{Script}
-use Rattle.sc_top.specs.InvokingCharts.{script_invokes}
 use Rattle.sc_top.specs.Promise.{IsRead, Reports, Says, faulty, legal}
 use Rattle.sc_top.specs.Promise as promise
-use Rattle.sc_top.specs.Sayings.{SaysOfScript, check_status, check_text, no_script, not_built, ran, status_of, text_of}
+use Rattle.sc_top.specs.Sayings.{SaysOfScript, check_status, check_text, no_script, ran, status_of, text_of}
 use Rattle.sc_top.specs.declared.saying.Saying.{Saying}
 use Rattle.sc_top.specs.declared.status.Status.{Status}
 use Rattle.sc_top.specs.declared.status.Status.TheVariants as done
@@ -20,10 +19,8 @@ says_of_script : (budget : ℕ) (source : Option (List ℕ)) (faulted : Type 0) 
     → (spelled : Spelled) → script_of text ≡ spelled → (status : Status) (said : List ℕ)
     → SaysOfScript budget spelled status said → Says (Some (Run budget)) source faulted status said
 says_of_script budget source faulted text told _ is _ _ (no_script fault) = promise.no_script budget text fault refl told is
-says_of_script budget source faulted text told _ is _ _ (not_built script invoking) =
-    promise.not_built budget text script refl told is invoking
-says_of_script budget source faulted text told _ is _ _ (ran script status bytes alone reports) =
-    promise.ran budget text script status bytes refl told is alone reports
+says_of_script budget source faulted text told _ is _ _ (ran script status bytes reports) =
+    promise.ran budget text script status bytes refl told is reports
 
 -- what is said of a script that was read is what the promise says of a run
 pub run_says : {E : Type 0} (budget : ℕ) (source : Option (List ℕ)) (faulted : Type 0) (text : List ℕ) (r : Result Saying E)
@@ -33,13 +30,6 @@ pub run_says : {E : Type 0} (budget : ℕ) (source : Option (List ℕ)) (faulted
 run_says budget source faulted text (Ok s) told says =
     says_of_script budget source faulted text told (script_of text) refl (status_of s) (text_of s) says
 run_says budget source faulted text (Err e) told says = tt
-
--- what is reported of a run is what is said of a script that invokes nothing
-pub ran_says : {E : Type 0} (budget : ℕ) (script : Script) (r : Result Saying E) → IsTrue (not (script_invokes script))
-    → IfOk r (λ s. Reports script budget (status_of s) (text_of s))
-    → IfOk r (λ s. SaysOfScript budget (Ok script) (status_of s) (text_of s))
-ran_says budget script (Ok s) alone reports = ran script (status_of s) (text_of s) alone reports
-ran_says budget script (Err e) alone reports = tt
 
 -- of a text that should spell a chart
 says_of_chart : (source : Option (List ℕ)) (faulted : Type 0) (text : List ℕ) → IsRead (Some Check) source text

@@ -1,5 +1,4 @@
 pub mod Asked
-pub mod InvokingCharts
 pub mod Lines
 pub mod Promise
 pub mod Report

@@ -1,5 +1,5 @@
 -- What the program promises: the line or the report that goes with each status. This host's own rule.
-use Rattle.std.specs.Prelude.{ℕ, ◌≡◌, Option, Some, None, IfSome, IsTrue, List, ◌++◌, not, take, decimal, codes, Ok, Err}
+use Rattle.std.specs.Prelude.{ℕ, ◌≡◌, Option, Some, None, IfSome, List, ◌++◌, take, decimal, codes, Ok, Err}
 use Rattle.sc_types.specs.ChartTexts.{count_states}
 use Rattle.sc_types.specs.declared.chart.Chart.{Chart}
 use Rattle.sc_types.specs.declared.chart.ChartFault.{ChartFault}
@@ -12,7 +12,6 @@ use Rattle.sc_core.specs.Cues.{ready}
 use Rattle.sc_core.specs.Histories.{replay}
 use Rattle.sc_core.specs.Hosts.{empty_host}
 use Rattle.sc_top.specs.Asked.{most_read}
-use Rattle.sc_top.specs.InvokingCharts.{script_invokes}
 use Rattle.sc_top.specs.Lines.{line}
 use Rattle.sc_top.specs.Report.{end_word, fault_text, report, script_fault_text}
 use Rattle.sc_top.specs.Run.{IsHistoryOf}
@@ -43,12 +42,8 @@ pub data Says (asked : Option Asked) (source : Option (List ℕ)) (faulted : Typ
   no_script : (budget : ℕ) (text : List ℕ) (fault : ScriptFault) → asked ≡ Some (Run budget) → IsRead asked source text
       → script_of text ≡ Err fault
       → Says asked source faulted status.BadScript (line (codes "script " ++ script_fault_text fault))
-  not_built : (budget : ℕ) (text : List ℕ) (script : Script) → asked ≡ Some (Run budget) → IsRead asked source text
-      → script_of text ≡ Ok script → IsTrue (script_invokes script)
-      → Says asked source faulted status.NotBuilt (codes "not-built\n")
   ran : (budget : ℕ) (text : List ℕ) (script : Script) (status : Status) (bytes : List ℕ) → asked ≡ Some (Run budget)
-      → IsRead asked source text → script_of text ≡ Ok script → IsTrue (not (script_invokes script))
-      → Reports script budget status bytes → Says asked source faulted status bytes
+      → IsRead asked source text → script_of text ≡ Ok script → Reports script budget status bytes → Says asked source faulted status bytes
   legal : (text : List ℕ) (chart : Chart) → asked ≡ Some Check → IsRead asked source text → legal_chart_of text ≡ Ok chart
       → Says asked source faulted status.Done (line (codes "ok " ++ decimal (count_states chart)))
   faulty : (text : List ℕ) (fault : ChartFault) → asked ≡ Some Check → IsRead asked source text

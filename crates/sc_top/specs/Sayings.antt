@@ -1,12 +1,11 @@
 -- What is said of what was read. Only contracts of private functions cite this.
-use Rattle.std.specs.Prelude.{ℕ, List, ◌++◌, Result, Ok, Err, IsTrue, decimal, codes, not}
+use Rattle.std.specs.Prelude.{ℕ, List, ◌++◌, Result, Ok, Err, decimal, codes}
 use Rattle.sc_types.specs.ChartTexts.{count_states}
 use Rattle.sc_types.specs.declared.chart.Chart.{Chart}
 use Rattle.sc_types.specs.declared.chart.ChartFault.{ChartFault}
 use Rattle.sc_script.specs.Scripts.{Spelled}
 use Rattle.sc_script.specs.declared.fault.ScriptFault.{ScriptFault}
 use Rattle.sc_script.specs.declared.script.Script.{Script}
-use Rattle.sc_top.specs.InvokingCharts.{script_invokes}
 use Rattle.sc_top.specs.Lines.{line}
 use Rattle.sc_top.specs.Promise.{Reports}
 use Rattle.sc_top.specs.Report.{fault_text, script_fault_text}
@@ -20,7 +19,6 @@ abbrev pub status_of : Saying → Status
 status_of saying.OtherWords = status.OtherWords
 status_of saying.ReadFault = status.ReadFault
 status_of (saying.BadScript text) = status.BadScript
-status_of saying.NotBuilt = status.NotBuilt
 status_of (saying.Done text) = status.Done
 status_of (saying.Spent text) = status.Budget
 status_of (saying.Faulty text) = status.Faulty
@@ -30,7 +28,6 @@ abbrev pub text_of : Saying → List ℕ
 text_of saying.OtherWords = codes "words\n"
 text_of saying.ReadFault = codes "read\n"
 text_of (saying.BadScript text) = text
-text_of saying.NotBuilt = codes "not-built\n"
 text_of (saying.Done text) = text
 text_of (saying.Spent text) = text
 text_of (saying.Faulty text) = text
@@ -39,10 +36,8 @@ text_of (saying.Faulty text) = text
 pub data SaysOfScript (budget : ℕ) : Spelled → Status → List ℕ → Type 0 where
   no_script : (fault : ScriptFault)
       → SaysOfScript budget (Err fault) status.BadScript (line (codes "script " ++ script_fault_text fault))
-  not_built : (script : Script) → IsTrue (script_invokes script)
-      → SaysOfScript budget (Ok script) status.NotBuilt (codes "not-built\n")
-  ran : (script : Script) (status : Status) (bytes : List ℕ) → IsTrue (not (script_invokes script))
-      → Reports script budget status bytes → SaysOfScript budget (Ok script) status bytes
+  ran : (script : Script) (status : Status) (bytes : List ℕ) → Reports script budget status bytes
+      → SaysOfScript budget (Ok script) status bytes
 
 -- of a text that should spell a chart
 

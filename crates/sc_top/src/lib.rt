@@ -2,7 +2,6 @@
 //! one.
 #![tactic(auto)]
 
-mod charts;
 mod check;
 mod program;
 mod report;

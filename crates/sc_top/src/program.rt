@@ -9,7 +9,6 @@ ghost use Rattle.sc_top.specs.Promise.{Output, Reports, Says};
 ghost use Rattle.sc_top.specs.Sayings.{SaysOfScript, status_of, text_of};
 ghost use Rattle.sc_top.specs.Statuses.{code};
 
-use crate::charts::script_invokes;
 use crate::check::check_text;
 use crate::report::{report_of, script_fault_line};
 use crate::run::run_script;
@@ -28,9 +27,8 @@ use std::alloc::Global;
 /// them bounds the steps; without it they are 1,000,000. With the word `check` the source has a chart, and the sink takes
 /// `ok` and the number of its states, or, with the status 3, `chart` and its first fault. After 8 the steps were used up,
 /// and the report ends so. Else the sink takes the line that names the status: 1 `words`, 2 `script` with the first faulty
-/// line and its cause, 4 `read`, 12 `not-built` where the script installs a chart with an `<invoke>`. After 5, the sink
-/// failed and has taken the first part of what was to be written; after 7 the program was out of memory, and nothing was
-/// written.
+/// line and its cause, 4 `read`. After 5, the sink failed and has taken the first part of what was to be written; after 7
+/// the program was out of memory, and nothing was written.
 pub fn top<S: Source, K: Sink>(alloc: Global, words: &[String], source: &mut S, sink: &mut K) -> u8
     ensures said { result ≢ code Status.WriteFault → result ≢ code Status.OutOfMemory → (status : Status) × (text : List ℕ)
         × (result ≡ code status) × Says (asked (map string_bytes words.now)) (S.left source.old)
@@ -111,27 +109,16 @@ fn run_text(alloc: Global, budget: u64, text: &[u8]) -> Result<Saying, NoMemory>
     ensures { IfOk result (λ s. SaysOfScript budget (script_of text.now) (status_of s) (text_of s)) }
 {
     match read_script(alloc, text) {
-        Ok(script) => run_read(alloc, budget, script),
+        Ok(script) => report_run(alloc, budget, script),
         Err(Failure::Fault(fault)) => Ok(Saying::BadScript(script_fault_line(alloc, &fault)?)),
         Err(Failure::NoMemory) => Err(NoMemory),
     }
 }
 
-/// The report of a script's run, where this version runs its charts.
-fn run_read(alloc: Global, budget: u64, script: Script) -> Result<Saying, NoMemory>
-    requires steps { HasNoStep script }
-    ensures { IfOk result (λ s. SaysOfScript budget (Ok script) (status_of s) (text_of s)) }
-{
-    if script_invokes(alloc, &script)? {
-        return Ok(Saying::NotBuilt);
-    }
-    report_run(alloc, budget, script)
-}
-
 /// Runs a script, and reports.
 fn report_run(alloc: Global, budget: u64, script: Script) -> Result<Saying, NoMemory>
     requires steps { HasNoStep script }
-    ensures { IfOk result (λ s. Reports script budget (status_of s) (text_of s)) }
+    ensures { IfOk result (λ s. SaysOfScript budget (Ok script) (status_of s) (text_of s)) }
 {
     let run = run_script(alloc, script, budget)?;
     let history = run.history.slice();

@@ -13,8 +13,6 @@ pub(crate) enum Saying {
     ReadFault,
     /// The first fault of a script's text.
     BadScript(Bytes),
-    /// The script installs a chart that this version does not run.
-    NotBuilt,
     /// A report of a run after which no session is ready, or that a text is a chart.
     Done(Bytes),
     /// A report of a run whose steps are used up.
@@ -32,7 +30,6 @@ impl Saying {
             Saying::OtherWords => Status::OtherWords,
             Saying::ReadFault => Status::ReadFault,
             Saying::BadScript(_) => Status::BadScript,
-            Saying::NotBuilt => Status::NotBuilt,
             Saying::Done(_) => Status::Done,
             Saying::Spent(_) => Status::Budget,
             Saying::Faulty(_) => Status::Faulty,
@@ -46,7 +43,6 @@ impl Saying {
             Saying::OtherWords => b"words\n",
             Saying::ReadFault => b"read\n",
             Saying::BadScript(text) => text.slice(),
-            Saying::NotBuilt => b"not-built\n",
             Saying::Done(text) => text.slice(),
             Saying::Spent(text) => text.slice(),
             Saying::Faulty(text) => text.slice(),

@@ -19,8 +19,6 @@ pub enum Status {
     OutOfMemory,
     /// The steps of a run were used up, and a session is ready.
     Budget,
-    /// The script installs a chart that this version does not run.
-    NotBuilt,
 }
 
 impl Status {
@@ -37,7 +35,6 @@ impl Status {
             Status::WriteFault => 5,
             Status::OutOfMemory => 7,
             Status::Budget => 8,
-            Status::NotBuilt => 12,
         }
     }
 }

@@ -6,6 +6,7 @@ abbrev pub invariant-loop-event : goal.invariant-loop-event
 invariant-loop-event l = record {
   image : session_image l.session ≡ session_image l.initial.session;
   queued : l.session.queued ≡ l.initial.session.queued;
+  children : l.session.children ≡ l.initial.session.children;
   spare : l.initial.session.failures.spare ≤ l.session.failures.spare;
 }
 

@@ -7,8 +7,8 @@ use Rattle.sc_top.specs.Sayings.{SaysOfScript, no_script}
 use Rattle.sc_top.specs.declared.status.Status.TheVariants.{BadScript}
 use Rattle.sc_top.proofs.program.run_text.Goals as goal
 
-pub run_read-requires : goal.run_read-requires
-run_read-requires c = record { steps = no_step_in c.args.text.now c.in-Ok.script c.in-Ok.ensures.script }
+pub report_run-requires : goal.report_run-requires
+report_run-requires c = record { steps = no_step_in c.args.text.now c.in-Ok.script c.in-Ok.ensures.script }
 
 pub returns-in_ok-script_fault_line-in-Err-Fault :
     goal.returns-in_ok-script_fault_line-in-Err-Fault

@@ -1,14 +1,24 @@
-use Rattle.std.proofs.Common.{◌≡◌, ◌∷◌, [], ◌++◌, option_map, refl, sym, subst, ap, ◌∙◌}
-use Rattle.std.proofs.lemmas.Option.{same_Some}
+use Rattle.std.proofs.Common.{List, append_assoc, ◌≡◌, ◌+◌, ◌^◌, ◌∷◌, [], ◌++◌, option_map, slice_get, length, refl, arith, sym, subst, ap, ◌∙◌}
+use Rattle.std.proofs.lemmas.Option.{same_Some, slice_get_within}
 use Rattle.sc_types.specs.declared.command.Reply.TheVariants.{Stepped}
+use Rattle.std.specs.List.{AllByRecursion}
+use Rattle.sc_types.specs.declared.effect.Effect.{Effect}
+use Rattle.sc_types.specs.declared.history.LogLine.{LogLine}
+use Rattle.sc_types.specs.declared.host.HostImage.{HostImage}
 use Rattle.sc_types.specs.declared.host.SessionImage.{SessionImage}
+use Rattle.sc_types.specs.declared.session.SessionState.{SessionState}
 use Rattle.sc_law.specs.Turn.{TurnResult}
-use Rattle.sc_core.specs.Bodies.{image}
+use Rattle.sc_core.specs.Bodies.{image, session_image}
+use Rattle.sc_core.specs.Commands.{put_in}
+use Rattle.sc_core.specs.Drafts.{IsSender}
 use Rattle.sc_core.specs.HostStates.{ArePlanned}
+use Rattle.sc_core.specs.Installing.{CanApplyAll, IsRoomy, new_rooms}
+use Rattle.sc_core.specs.Hosts.{with_session}
 use Rattle.sc_core.specs.Stepping.{put_changes}
-use Rattle.sc_core.specs.declared.change.Change.TheVariants.{Count, End}
+use Rattle.sc_core.specs.declared.change.Change.TheVariants.{Count}
 use Rattle.sc_core.proofs.DraftLemmas.{some_map}
-use Rattle.sc_core.proofs.TurnedLemmas.{joined, step_none, step_prepared, turn_drafted}
+use Rattle.sc_core.proofs.SetLemmas.{map_long}
+use Rattle.sc_core.proofs.TurnedLemmas.{put_base, sender_at, step_none, step_prepared, turn_counted, turn_drafted, turn_sent, turn_whole}
 use Rattle.sc_core.proofs.body.Body.draft_turn.Goals as goal
 
 pub returns-clause-step : goal.returns-clause-step
@@ -17,19 +27,34 @@ returns-clause-step g c = λ s there.
     let place = c.args.place in
     let cue = c.args.cue.now in
     let d = c.in_ok-draft.draft in
+    let e = c.draft_end.new.draft in
     let t : TurnResult =
     record { after = c.args.turned.after; effects = c.args.turned.effects; logs = c.args.turned.logs } in
     let parts = c.into_parts-after.ensures.value in
     let named : t.after.session ≡ s.state.session =
     same_Some t.after.session s.state.session
     (sym c.requires.there ∙ ap (λ o. option_map (λ (x : SessionImage). x.state.session) o) there) in
-    let changes =
-    c.in_ok-push-2.ensures.ok ∙ ap (λ cs. cs ++ Count ∷ []) (c.in_ok-push.ensures.ok ∙ ap (λ cs. cs ++ End place ∷ [])
-    (c.in_ok-append.ensures ∙ ap (λ cs. cs ++ d.changes) (c.in_ok-changes.ensures
-    ∙ ap (λ x. put_changes place cue x.0) parts))) ∙ joined (put_changes place cue t.after) d.changes (End place) Count in
-    step_prepared before place s cue t d _ there named c.requires.commands
-    (turn_drafted before place s cue d c.into_parts-after.result t parts there c.requires.numbers c.in_ok-draft.ensures)
-    changes (ap Stepped c.name_of.ensures) (ap (λ x. x.2) parts) refl
+    let drafted = turn_drafted before place s cue d c.into_parts-after.result t parts there c.requires.numbers
+    c.in_ok-draft.ensures.all in
+    let base = put_base before place s cue t there c.requires.numbers in
+    let sender = sender_at before place t.after (with_session before place (put_in s cue t)) d base drafted.draft
+    (slice_get_within before.sessions place s there) in
+    let b = with_session before place (put_in s cue t) in
+    let ends = c.in_ok-draft_end.ensures b sender.0
+    (subst (λ (x : SessionState × List Effect × List LogLine). IsSender before place x.0 b d sender.0) (sym parts) sender.1) in
+    let first : c.len-2.result ≡ length before.sessions =
+    c.len-2.ensures.items ∙ sym (map_long session_image c.args.self.now.sessions.items) in
+    let roomy = subst (λ n. (h : HostImage) → length h.sessions ≡ n → CanApplyAll h e.changes
+    → AllByRecursion (IsRoomy n c.in_ok-count.count (new_rooms c.in_ok-more.more)) c.in_ok-more.more) first
+    c.in_ok-more.ensures.roomy in
+    let whole = turn_whole before place s cue t d e c.in_ok-more.more c.in_ok-count.count there drafted ends
+    c.in_ok-more.ensures.alike (omega (arith, c.in_ok-count.ensures, c.len.ensures)) roomy in
+    step_prepared before place s cue t c.in_ok-more.more _ _ there named c.requires.commands refl
+    (turn_counted before place s cue t d drafted) whole
+    (c.in_ok-push.ensures.ok ∙ ap (λ cs. cs ++ Count ∷ []) (c.in_ok-append.ensures
+    ∙ ap (λ cs. cs ++ c.in_ok-more.more) (c.in_ok-changes.ensures ∙ ap (λ x. put_changes place cue x.0) parts))
+    ∙ append_assoc (put_changes place cue t.after) c.in_ok-more.more (Count ∷ []))
+    (ap Stepped c.name_of.ensures) (ap (λ x. x.2) parts) (turn_sent before place s cue t d e drafted ends)
 
 pub returns-clause-none : goal.returns-clause-none
 returns-clause-none g c = λ chart_of.
@@ -37,14 +62,28 @@ returns-clause-none g c = λ chart_of.
     let place = c.args.place in
     let cue = c.args.cue.now in
     let d = c.in_ok-draft.draft in
+    let e = c.draft_end.new.draft in
     let t : TurnResult =
     record { after = c.args.turned.after; effects = c.args.turned.effects; logs = c.args.turned.logs } in
     let parts = c.into_parts-after.ensures.value in
     let found = some_map _ t.after.session c.requires.there in
-    let changes =
-    c.in_ok-push-2.ensures.ok ∙ ap (λ cs. cs ++ Count ∷ []) (c.in_ok-push.ensures.ok ∙ ap (λ cs. cs ++ End place ∷ [])
-    (c.in_ok-append.ensures ∙ ap (λ cs. cs ++ d.changes) (c.in_ok-changes.ensures
-    ∙ ap (λ x. put_changes place cue x.0) parts))) ∙ joined (put_changes place cue t.after) d.changes (End place) Count in
-    let drafted =
-    turn_drafted before place found.0 cue d c.into_parts-after.result t parts found.1 c.requires.numbers c.in_ok-draft.ensures in
-    subst (ArePlanned chart_of) (sym changes) (step_none t.after.session _ d place cue t.after drafted.draft chart_of)
+    let s = found.0 in
+    let there = found.1 in
+    let drafted = turn_drafted before place s cue d c.into_parts-after.result t parts there c.requires.numbers
+    c.in_ok-draft.ensures.all in
+    let base = put_base before place s cue t there c.requires.numbers in
+    let b = with_session before place (put_in s cue t) in
+    let sender = sender_at before place t.after b d base drafted.draft (slice_get_within before.sessions place s there) in
+    let ends = c.in_ok-draft_end.ensures b sender.0
+    (subst (λ (x : SessionState × List Effect × List LogLine). IsSender before place x.0 b d sender.0) (sym parts) sender.1) in
+    let first : c.len-2.result ≡ length before.sessions =
+    c.len-2.ensures.items ∙ sym (map_long session_image c.args.self.now.sessions.items) in
+    let roomy = subst (λ n. (h : HostImage) → length h.sessions ≡ n → CanApplyAll h e.changes
+    → AllByRecursion (IsRoomy n c.in_ok-count.count (new_rooms c.in_ok-more.more)) c.in_ok-more.more) first
+    c.in_ok-more.ensures.roomy in
+    let whole = turn_whole before place s cue t d e c.in_ok-more.more c.in_ok-count.count there drafted ends
+    c.in_ok-more.ensures.alike (omega (arith, c.in_ok-count.ensures, c.len.ensures)) roomy in
+    let changes = c.in_ok-push.ensures.ok ∙ ap (λ cs. cs ++ Count ∷ []) (c.in_ok-append.ensures
+    ∙ ap (λ cs. cs ++ c.in_ok-more.more) (c.in_ok-changes.ensures ∙ ap (λ x. put_changes place cue x.0) parts))
+    ∙ append_assoc (put_changes place cue t.after) c.in_ok-more.more (Count ∷ []) in
+    subst (ArePlanned chart_of) (sym changes) (step_none place cue t.after c.in_ok-more.more whole.none chart_of)

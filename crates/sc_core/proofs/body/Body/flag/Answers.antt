@@ -11,4 +11,4 @@ returns-clause-makes g c =
     set_session h c.args.place s _ _ h.events h.timers
     (λ s. with_session (image h) c.args.place (record s { flagged = true }))
     c.requires.agrees c.item_mut-session.ensures.value refl (omega arith) (omega arith) (c.mark.ensures.places ∙ ap (λ b. marked b c.args.place h.ready.places) c.is_ready.ensures)
-    c.mark.ensures.room (omega arith) refl
+    c.mark.ensures.room (omega arith) refl refl refl

@@ -16,4 +16,4 @@ loop-change-preserved g c =
 pub returns-clause-room : goal.returns-clause-room
 returns-clause-room g c =
     all_room c.args.changes.now c.len-count.result c.loop-change.place c.args.self.now c.loop-change.self
-    (sym c.in_default.ensures.value) c.loop-change.invariant
+    (sym c.in_default.ensures.value) c.loop-change.invariant c.requires.roomy

@@ -1,5 +1,6 @@
 use Rattle.std.proofs.Common.{◌+◌, count_by, drop, ap, sym, ◌∙◌}
 use Rattle.sc_types.specs.Sends.{is_send}
+use Rattle.sc_core.specs.Drafts.{stepper}
 use Rattle.sc_core.proofs.CountLemmas.{counted, counted_is}
 use Rattle.sc_core.proofs.RoomLemmas.{drop_at, drop_past}
 use Rattle.sc_core.proofs.body.Body.pending.Goals as goal
@@ -14,11 +15,11 @@ loop-change-preserved g c =
     ∙ sym (ap (λ cs. counted session id cs c.loop-change.count) at) ∙ c.loop-change.invariant
 
 pub returns : goal.returns
-returns g c = λ h timers draft.
+returns g c = λ h place timers draft.
     let session = c.args.session.now in
     let id = c.args.id.now in
     let changes = c.args.draft.now.changes in
     let past = drop_past changes c.loop-change.place (sym c.in_default.ensures.value) in
     sym (ap (λ cs. counted session id cs c.loop-change.count) past) ∙ c.loop-change.invariant
     ∙ ap (λ ts. counted session id changes (count_by (is_send session id) ts)) (sym timers)
-    ∙ counted_is session id changes h draft.of_step
+    ∙ counted_is (stepper session place) id changes h draft.of_step

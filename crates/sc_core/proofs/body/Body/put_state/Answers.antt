@@ -1,4 +1,4 @@
-use Rattle.std.proofs.Common.{append-nil, ap, sym, arith, ◌∙◌}
+use Rattle.std.proofs.Common.{append-nil, ap, sym, arith, ◌∙◌, refl}
 use Rattle.sc_types.specs.declared.session.SessionState.{SessionState}
 use Rattle.sc_core.specs.Bodies.{image, marked, session_image}
 use Rattle.sc_core.specs.Hosts.{with_session}
@@ -15,7 +15,7 @@ returns-clause-makes g c =
     (ap (λ (x : SessionState). x.session) c.replace_state.ensures
     ∙ name_at h c.args.place s c.args.state.session c.requires.agrees c.item_mut-session.ensures.value c.requires.name)
     (omega arith) (omega (arith, c.clear.ensures.spare)) (c.mark.ensures.places ∙ ap (λ b. marked b c.args.place h.ready.places) c.is_ready.ensures)
-    c.mark.ensures.room (omega arith)
+    c.mark.ensures.room (omega arith) refl refl
     (rw (c.replace_state.ensures, c.clear.ensures.items) (ap
     (λ es. with_session (image h) c.args.place (record (session_image s) { state = record c.args.state { internal = es } }))
     (sym (append-nil c.args.state.internal))))

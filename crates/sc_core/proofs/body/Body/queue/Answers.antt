@@ -13,4 +13,4 @@ returns-clause-makes g c =
     set_session h c.args.place s _ _ (h.events + 1) h.timers (λ s. queue (image h) c.args.place s c.args.event)
     c.requires.agrees c.item_mut-session.ensures.value refl (omega (arith, ap (λ (q : RoomyOf Event). q.spare) c.push.ensures))
     (omega arith) (c.mark.ensures.places ∙ ap (λ b. marked b c.args.place h.ready.places) c.is_ready.ensures)
-    c.mark.ensures.room (omega arith) (rw c.push.ensures refl)
+    c.mark.ensures.room (omega arith) refl refl (rw c.push.ensures refl)

@@ -11,6 +11,6 @@ returns-clause-makes g c =
     set_session h c.args.place s _ _ h.events h.timers
     (λ s. with_session (image h) c.args.place (record s { queued = drop 1 s.queued }))
     c.requires.agrees c.item_mut-session.ensures.value refl (omega (arith, c.pop_front.ensures.spare)) (omega arith) (c.mark.ensures.places ∙ ap (λ b. marked b c.args.place h.ready.places) c.is_ready.ensures)
-    c.mark.ensures.room (omega arith)
+    c.mark.ensures.room (omega arith) refl refl
     (ap (λ es. with_session (image h) c.args.place (record (session_image s) { queued = es }))
     (rest_is _ s.queued.items _ c.pop_front.ensures.items))

@@ -14,7 +14,7 @@ returns-clause-makes g c =
     (λ s. with_session (image h) c.args.place (record s { state = record s.state { internal = s.state.internal ++ c.args.event ∷ [] } }))
     c.requires.agrees c.item_mut-session.ensures.value refl (omega arith)
     (omega (arith, ap (λ (q : RoomyOf Event). q.spare) c.push.ensures)) (c.mark.ensures.places ∙ ap (λ b. marked b c.args.place h.ready.places) c.is_ready.ensures)
-    c.mark.ensures.room (omega arith)
+    c.mark.ensures.room (omega arith) refl refl
     (rw c.push.ensures (ap
     (λ es. with_session (image h) c.args.place (record (session_image s) { state = record s.state { internal = es } }))
     (append_more s.state.internal s.failures.items (c.args.event ∷ []))))

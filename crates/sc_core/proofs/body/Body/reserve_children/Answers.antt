@@ -1,0 +1,16 @@
+use Rattle.std.proofs.Common.{arith, refl}
+use Rattle.sc_core.specs.declared.session.Session.{Session}
+use Rattle.sc_core.proofs.RoomLemmas.{keeps_set, made_there, on_ok}
+use Rattle.sc_core.proofs.body.Body.reserve_children.Goals as goal
+
+pub returns-clause-keeps : goal.returns-clause-keeps
+returns-clause-keeps g c =
+    let s = c.item_mut.result.now in
+    keeps_set c.args.self.now c.args.place s _ c.requires.agrees c.item_mut.ensures.value
+    refl (omega arith) (omega arith) c.reserve.ensures.items c.reserve.ensures.spare
+
+pub returns-clause-ok : goal.returns-clause-ok
+returns-clause-ok g c =
+    on_ok c.reserve.result _ _ c.reserve.ensures.ok
+    (made_there (λ (x : Session). x.children.spare) c.args.self.now.sessions.items c.args.place c.args.count
+    c.item_mut.result.now _ c.item_mut.ensures.value)
