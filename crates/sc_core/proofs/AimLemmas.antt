@@ -1,15 +1,12 @@
 -- Where an event goes that a session sends, and that deliveries change nothing of that.
-use Rattle.std.proofs.Common.{◌≡◌, ℕ, ◌+◌, ◌-◌, ◌^◌, ◌==◌, ◌&&◌, zero, suc, nat_lt, Bool, true, false, Option, Some, None, option_map, option_and_then, if◌then◌else◌, List, [], ◌∷◌, position, slice_get, slice_set, refl, arith, sym, ap, ◌∙◌}
+use Rattle.std.proofs.Common.{◌≡◌, ℕ, ◌+◌, ◌==◌, ◌&&◌, zero, suc, Bool, true, false, Option, Some, None, option_map, option_and_then, if◌then◌else◌, List, [], ◌∷◌, position, slice_get, slice_set, refl, arith, sym, ap, ◌∙◌}
 use Rattle.std.proofs.Math.Seq.{map-set_same}
 use Rattle.std.proofs.lemmas.Bool.Decides.{nat_tests}
 use Rattle.std.proofs.lemmas.Option.{get_or_from_slice_get, slice_get-map}
 use Rattle.std.specs.Option.{option_map_or}
 use Rattle.std.specs.Str.{bytes_eq}
-use Rattle.sc_types.specs.Sends.{with_send}
-use Rattle.sc_types.specs.declared.effect.Effect.{Effect}
-use Rattle.sc_types.specs.declared.effect.Effect.TheVariants.{Send, CancelSend, Invoke, CancelChild, Forward}
 use Rattle.sc_types.specs.declared.event.Event.{Event}
-use Rattle.sc_types.specs.declared.history.Delivery.TheVariants.{Dropped, Nothing, Queued, Timed}
+use Rattle.sc_types.specs.declared.history.Delivery.TheVariants.{Dropped, Nothing, Queued}
 use Rattle.sc_types.specs.declared.host.HostImage.{HostImage}
 use Rattle.sc_types.specs.declared.host.InvokerImage.{InvokerImage}
 use Rattle.sc_types.specs.declared.host.SessionImage.{SessionImage}
@@ -20,7 +17,7 @@ use Rattle.sc_types.specs.declared.session.Phase.{Phase}
 use Rattle.sc_types.specs.declared.session.SessionState.{SessionState}
 use Rattle.sc_core.specs.Aims.{Outline, aim, aim_found, aim_named, carried, invokeid_for, outline, outlines, received}
 use Rattle.sc_core.specs.Changes.{at_session, put_state, queue_at, tell, with_invokeid}
-use Rattle.sc_core.specs.Deliveries.{Delivered, arriving, deliver, deliver_of, delay_send, due_time, fire, hears, is_cut_from, left_as, next_send, queue, receiver_name, send_found, send_named, send_now, unreachable, while_live}
+use Rattle.sc_core.specs.Deliveries.{Delivered, arriving, fire, hears, is_cut_from, left_as, queue, receiver_name, send_found, send_named, send_now, unreachable, while_live}
 use Rattle.sc_core.specs.Hosts.{is_live, is_running, is_session_named, session_named, session_place, with_session}
 use Rattle.sc_core.specs.declared.aims.Aim.{Aim}
 use Rattle.sc_core.specs.declared.aims.Aim.TheVariants.{Reaches, Fails, Drops}

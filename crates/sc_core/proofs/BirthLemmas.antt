@@ -1,16 +1,15 @@
 -- Where a session is found, in a host machine that has more sessions.
-use Rattle.std.proofs.Common.{cond, ◌≡◌, ℕ, ◌+◌, ◌<◌, ◌||◌, ◌==◌, zero, suc, nat_lt, not, Bool, true, false, Option, Some, None, is_some, option_map, option_and_then, if◌then◌else◌, find, List, [], ◌∷◌, ◌++◌, append_assoc, length, map, position, slice_get, refl, arith, sym, ap, subst, ◌∙◌}
+use Rattle.std.proofs.Common.{cond, ◌≡◌, ℕ, ◌+◌, ◌||◌, ◌==◌, suc, nat_lt, not, Bool, true, false, Option, Some, None, is_some, option_map, option_and_then, if◌then◌else◌, find, List, [], ◌∷◌, ◌++◌, append_assoc, length, map, position, slice_get, refl, arith, sym, ap, subst, ◌∙◌}
 use Rattle.std.specs.List.{list_any, position_or_len}
 use Rattle.std.specs.Option.{option_map_or}
 use Rattle.std.specs.Str.{bytes_eq}
 use Rattle.std.proofs.Math.Seq.{map-set_same}
 use Rattle.std.proofs.lemmas.Bool.Decides.{nat_tests}
 use Rattle.std.proofs.lemmas.List.Folds.{list_any-append}
-use Rattle.std.proofs.lemmas.Option.{get_or_from_slice_get, slice_get-map}
+use Rattle.std.proofs.lemmas.Option.{get_or_from_slice_get}
 use Rattle.std.proofs.lemmas.Option.{none-some}
 use Rattle.sc_types.specs.declared.host.HostImage.{HostImage}
 use Rattle.sc_types.specs.declared.host.SessionImage.{SessionImage}
-use Rattle.sc_types.specs.declared.session.Phase.TheVariants.{Fresh}
 use Rattle.sc_types.specs.declared.session.SessionState.{SessionState}
 use Rattle.sc_core.specs.Aims.{aim_found, outline, outlines, Outline}
 use Rattle.sc_core.specs.Births.{AreFrom, IsGrown, Sight, birth_place, born_sight, sight, sights}

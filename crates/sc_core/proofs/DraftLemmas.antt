@@ -1,12 +1,12 @@
 -- What is prepared of an effect is what the host machine does.
-use Rattle.std.proofs.Common.{codes, count_by, get_or, slice_set, Result, Ok, Err, IfOk, ◌≡◌, ℕ, ◌+◌, ◌-◌, ◌^◌, ◌<◌, ◌≤◌, ◌++◌, ◌&&◌, ◌==◌, true, false, nat_lt, not, filter, if◌then◌else◌, Option, Some, None, List, [], ◌∷◌, length, map, option_map, slice_get, refl, sym, ap, subst, ◌∙◌, arith, suc, zero}
+use Rattle.std.proofs.Common.{codes, count_by, Result, Ok, Err, IfOk, ◌≡◌, ℕ, ◌+◌, ◌-◌, ◌^◌, ◌<◌, ◌≤◌, ◌++◌, ◌&&◌, ◌==◌, true, false, nat_lt, not, filter, if◌then◌else◌, Option, Some, None, List, [], ◌∷◌, length, map, option_map, slice_get, refl, sym, ap, subst, ◌∙◌, arith, suc, zero}
 use Rattle.std.specs.List.{AllByRecursion}
 use Rattle.std.specs.Option.{option_map_or}
 use Rattle.std.proofs.lemmas.List.Elements.{All-filter}
 use Rattle.std.proofs.Math.Seq.{map-set_same}
 use Rattle.std.proofs.lemmas.Bool.Decides.{nat_tests}
 use Rattle.std.proofs.lemmas.List.{length-set}
-use Rattle.std.proofs.lemmas.Option.{get_or_from_slice_get, same_Some, slice_get-get_or, slice_get-map, slice_get_within}
+use Rattle.std.proofs.lemmas.Option.{get_or_from_slice_get, same_Some, slice_get-map, slice_get_within}
 use Rattle.sc_types.specs.Sends.{is_send, with_send}
 use Rattle.sc_law.specs.Runs.{platform_event}
 use Rattle.sc_types.specs.declared.effect.Effect.{Effect}

@@ -1,8 +1,6 @@
 -- What is prepared of the end of a session is what the host machine does.
-use Rattle.std.proofs.Common.{cond, ◌≡◌, ℕ, ◌+◌, ◌^◌, ◌<◌, ◌++◌, true, false, Bool, Option, Some, None, option_map, if◌then◌else◌, filter, List, [], ◌∷◌, append-nil, append_assoc, length, map, slice_get, slice_set, refl, arith, sym, ap, subst, ◌∙◌, zero, suc}
-use Rattle.std.specs.List.{AllByRecursion}
+use Rattle.std.proofs.Common.{◌≡◌, ℕ, ◌+◌, ◌^◌, ◌<◌, ◌++◌, true, false, Bool, Option, Some, None, option_map, if◌then◌else◌, List, [], ◌∷◌, append-nil, append_assoc, length, map, slice_get, slice_set, refl, arith, sym, ap, subst, ◌∙◌, zero, suc}
 use Rattle.std.specs.Option.{option_map_or}
-use Rattle.std.specs.Str.{bytes_eq}
 use Rattle.std.proofs.Math.Seq.{map-set_same}
 use Rattle.std.proofs.lemmas.Option.{get_or_from_slice_get, same_Some, slice_get-map, slice_get_within}
 use Rattle.std.proofs.lemmas.Slice.Eq.{bytes_eq-Decides}
@@ -19,25 +17,25 @@ use Rattle.sc_types.specs.declared.session.Phase.TheVariants as phase
 use Rattle.sc_types.specs.declared.session.SessionState.{SessionState}
 use Rattle.sc_core.specs.Births.{AreFrom, IsGrown, born_sight, sight, sights}
 use Rattle.sc_core.specs.Bodies.{Agrees, children_of, image, inviter, session_image}
-use Rattle.sc_core.specs.Changes.{clear_at, clear_in, put_state, queue_at}
+use Rattle.sc_core.specs.Changes.{clear_at, clear_in, put_state}
 use Rattle.sc_core.specs.Deliveries.{Delivered, DeliveredAll, cut_off, hand_to, left_as, queue, while_live}
 use Rattle.sc_core.specs.Drafts.{IsSender, so_far, stepper}
-use Rattle.sc_core.specs.Endings.{cleared, end_at, end_event, end_in, end_with, is_left_by, left_children, one_delivery, tell_end, tell_invoker, with_children_left}
+use Rattle.sc_core.specs.Endings.{cleared, end_at, end_event, end_in, end_with, is_left_by, one_delivery, tell_end, tell_invoker, with_children_left}
 use Rattle.sc_core.specs.Hosts.{is_live, session_named, with_session}
-use Rattle.sc_core.specs.Installing.{CanApplyAll, HaveTargets, apply, installed}
+use Rattle.sc_core.specs.Installing.{CanApplyAll, installed}
 use Rattle.sc_core.specs.HostStates.{ArePlanned}
 use Rattle.sc_core.specs.Parting.{Adds, DraftsEnd, cut_changes, cut_told, is_cut_in, new_left, old_left}
 use Rattle.sc_core.specs.declared.body.Body.{Body}
 use Rattle.sc_core.specs.declared.change.Change.{Change}
-use Rattle.sc_core.specs.declared.change.Change.TheVariants.{CutOff, End, Queue}
+use Rattle.sc_core.specs.declared.change.Change.TheVariants.{End, Queue}
 use Rattle.sc_core.specs.declared.draft.Draft.{Draft}
 use Rattle.sc_core.specs.declared.draft.Placed.{Placed}
 use Rattle.sc_core.specs.declared.session.Session.{Session}
-use Rattle.sc_core.proofs.AppendLemmas.{can_more, installed_more, planned_more, targets_more}
+use Rattle.sc_core.proofs.AppendLemmas.{can_more, installed_more, targets_more}
 use Rattle.sc_core.proofs.BirthLemmas.{grown_on, sights_set}
 use Rattle.sc_core.proofs.DraftLemmas.{put_long, sender_grown, sender_there}
 use Rattle.sc_core.proofs.LeftLemmas.{born_links, cut_where, left_is, links, links_after, put_front}
-use Rattle.sc_core.proofs.PartLemmas.{all_parted, cut_targets, parted, placed_where, told_where}
+use Rattle.sc_core.proofs.PartLemmas.{all_parted, cut_targets, placed_where, told_where}
 use Rattle.sc_core.proofs.SetLemmas.{clear_is, clear_over, map_long}
 
 -- ---- changes behind others

@@ -1,5 +1,5 @@
 -- The places of the children of each session.
-use Rattle.std.proofs.Common.{cond, ◌≡◌, ℕ, ◌+◌, ◌<◌, ◌||◌, zero, suc, Bool, true, false, Option, Some, None, option_map, if◌then◌else◌, List, [], ◌∷◌, ◌++◌, append-nil, length, map, get_or, slice_get, slice_set, slice_index_or, refl, arith, sym, ap, subst, ◌∙◌}
+use Rattle.std.proofs.Common.{cond, ◌≡◌, ℕ, ◌+◌, ◌||◌, zero, suc, Bool, true, false, Option, Some, None, option_map, if◌then◌else◌, List, [], ◌∷◌, ◌++◌, append-nil, length, map, slice_get, slice_set, refl, arith, sym, ap, subst, ◌∙◌}
 use Rattle.std.specs.List.{list_any}
 use Rattle.std.specs.Str.{bytes_eq}
 use Rattle.std.proofs.lemmas.List.Folds.{list_any-append}

@@ -234,10 +234,10 @@ kept_all : {X : Type 0} (p q : X → Bool) (xs : List X) → list_all p xs ≡ t
 kept_all p q [] h = refl
 kept_all {X = X} p q (x ∷ xs) h =
     let two = both_hold (p x) (list_all p xs) h in by (q x) two.0 (kept_all p q xs two.1) where
-  by : (v : Bool) → p x ≡ true → list_all p (filter q xs) ≡ true
-      → list_all p (cond v (x ∷ filter q xs) (filter q xs)) ≡ true
-  by true own rest = ap (λ b. b && list_all p (filter q xs)) own ∙ rest
-  by false own rest = rest
+      by : (v : Bool) → p x ≡ true → list_all p (filter q xs) ≡ true
+          → list_all p (cond v (x ∷ filter q xs) (filter q xs)) ≡ true
+      by true own rest = ap (λ b. b && list_all p (filter q xs)) own ∙ rest
+      by false own rest = rest
 
 kept_each : {X : Type 0} (P : X → Type 0) (q : X → Bool) (xs : List X) → AllByRecursion P xs → AllByRecursion P (filter q xs)
 kept_each P q [] h = tt

@@ -1,13 +1,11 @@
 -- What is always true of the host's body.
-use Rattle.std.proofs.Common.{◌≡◌, ℕ, ◌≤◌, All, List, [], ◌∷◌, ◌++◌, Option, Some, None, option_map, unwrap_or, slice_get, map, refl, ◌∙◌, length, arith, ap, subst, sym}
+use Rattle.std.proofs.Common.{◌≡◌, ℕ, ◌≤◌, All, List, [], ◌∷◌, ◌++◌, length, arith, ap, subst, sym}
 use Rattle.sc_types.specs.declared.chart.Chart.{Chart}
 use Rattle.sc_types.specs.declared.host.HostImage.{HostImage}
 use Rattle.sc_types.specs.declared.host.TimerImage.{TimerImage}
 use Rattle.sc_core.specs.Bodies.{Agrees, Keeps, image, session_image}
 use Rattle.sc_core.specs.FittingHosts.{FitsChart}
 use Rattle.std.proofs.lemmas.List.Elements.{All-push}
-use Rattle.std.proofs.lemmas.Option.{slice_get-map}
-use Rattle.std.specs.Option.{option_map_or}
 use Rattle.sc_core.specs.Holding.{IsHeld, host_of, rooms_of}
 use Rattle.sc_core.specs.HostStates.{ArePlanned, CanInstall, CanMake, HasRoomIn, HaveRoomIn, HaveRoomOfIn, IsPlanned, IsSound}
 use Rattle.sc_core.specs.Installing.{AreRoomy, CanApplyAll, HasRoom, HaveRoom, HaveRoomOf, HaveTargets, charts_after, installed, rooms_ahead}

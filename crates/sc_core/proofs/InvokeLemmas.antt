@@ -1,25 +1,21 @@
 -- What is prepared of an invocation is what the host machine does.
-use Rattle.std.proofs.Common.{◌≡◌, ℕ, ◌+◌, ◌<◌, ◌++◌, ◌&&◌, true, false, nat_lt, not, is_some, filter, if◌then◌else◌, Option, Some, None, option_map, List, [], ◌∷◌, length, map, slice_get, slice_set, refl, arith, sym, ap, subst, ◌∙◌, Bool, suc, zero}
-use Rattle.std.specs.List.{AllByRecursion}
+use Rattle.std.proofs.Common.{◌≡◌, ℕ, ◌+◌, ◌<◌, ◌++◌, ◌&&◌, true, false, nat_lt, not, is_some, if◌then◌else◌, Option, Some, None, option_map, List, [], ◌∷◌, length, map, slice_get, slice_set, refl, arith, sym, ap, subst, ◌∙◌, Bool, suc, zero}
 use Rattle.std.specs.Option.{option_map_or}
-use Rattle.std.proofs.lemmas.List.{length-set}
 use Rattle.std.proofs.lemmas.Option.{same_Some, slice_get_within}
 use Rattle.sc_types.specs.declared.event.Event.{Event}
-use Rattle.sc_types.specs.declared.history.Delivery.{Delivery}
-use Rattle.sc_types.specs.declared.history.Delivery.TheVariants.{Born, Flagged, Nothing, Unborn}
+use Rattle.sc_types.specs.declared.history.Delivery.TheVariants.{Born, Flagged, Unborn}
 use Rattle.sc_types.specs.declared.host.HostImage.{HostImage}
 use Rattle.sc_types.specs.declared.host.SessionImage.{SessionImage}
 use Rattle.sc_types.specs.declared.limits.TheConstants.{INVOKE_DEPTH_LIMIT}
-use Rattle.sc_types.specs.declared.session.SessionState.{SessionState}
 use Rattle.sc_types.specs.declared.value.Value.{Value}
 use Rattle.sc_law.specs.Runs.{fresh_state}
 use Rattle.sc_core.specs.Births.{born_sight, sight, sights}
-use Rattle.sc_core.specs.Bodies.{inviter, session_image}
-use Rattle.sc_core.specs.Changes.{cut_off_at, drop_invoke, tell, with_started}
-use Rattle.sc_core.specs.Deliveries.{Delivered, born, cancel_child, child_session, cut_off, invoke, may_bear, told, unborn, unborn_event, while_live, without_invoke}
-use Rattle.sc_core.specs.Drafts.{Drafts, Follows, IsDraft, IsSender, Stepper, own, own_at, so_far}
-use Rattle.sc_core.specs.Hosts.{has_chart, is_running, session_named, session_place, with_session}
-use Rattle.sc_core.specs.Installing.{CanApply, IsChildAt}
+use Rattle.sc_core.specs.Bodies.{session_image}
+use Rattle.sc_core.specs.Changes.{drop_invoke, tell, with_started}
+use Rattle.sc_core.specs.Deliveries.{born, cancel_child, child_session, cut_off, invoke, may_bear, unborn, unborn_event, without_invoke}
+use Rattle.sc_core.specs.Drafts.{Drafts, Follows, IsDraft, Stepper, own, so_far}
+use Rattle.sc_core.specs.Hosts.{has_chart, is_running, session_place, with_session}
+use Rattle.sc_core.specs.Installing.{IsChildAt}
 use Rattle.sc_core.specs.declared.change.Change.{Change}
 use Rattle.sc_core.specs.declared.change.Change.TheVariants.{Bear, CutOff, DropInvoke, Tell}
 use Rattle.sc_core.specs.declared.draft.Draft.{Draft}

@@ -1,6 +1,6 @@
 -- Which children a session leaves behind, told before anything changes.
-use Rattle.std.proofs.Common.{cond, ◌≡◌, ℕ, ◌+◌, ◌<◌, ◌≤◌, ◌==◌, ◌&&◌, ◌||◌, ◌++◌, zero, suc, nat_lt, not, Bool, true, false, Option, Some, None, option_map, option_and_then, if◌then◌else◌, filter, filter_map, List, [], ◌∷◌, length, map, slice_get, slice_set, refl, arith, sym, ap, subst, ◌∙◌}
-use Rattle.std.specs.List.{AllByRecursion, list_any}
+use Rattle.std.proofs.Common.{cond, ◌≡◌, ℕ, ◌+◌, ◌<◌, ◌==◌, ◌&&◌, ◌||◌, ◌++◌, zero, suc, not, Bool, true, false, Option, Some, None, option_map, option_and_then, if◌then◌else◌, filter, List, [], ◌∷◌, length, map, slice_get, slice_set, refl, arith, sym, ap, ◌∙◌}
+use Rattle.std.specs.List.{AllByRecursion}
 use Rattle.std.specs.Option.{option_map_or}
 use Rattle.std.specs.Str.{bytes_eq}
 use Rattle.std.proofs.Math.Seq.{map-set_same}
@@ -11,16 +11,15 @@ use Rattle.sc_types.specs.declared.event.Event.{Event}
 use Rattle.sc_types.specs.declared.host.HostImage.{HostImage}
 use Rattle.sc_types.specs.declared.host.InvokerImage.{InvokerImage}
 use Rattle.sc_types.specs.declared.host.SessionImage.{SessionImage}
-use Rattle.sc_types.specs.declared.session.Phase.TheVariants.{Fresh}
-use Rattle.sc_core.specs.Births.{AreFrom, Sight, born_sight, sight, sights}
+use Rattle.sc_core.specs.Births.{AreFrom, Sight, born_sight, sight}
 use Rattle.sc_core.specs.Bodies.{children_of, inviter, is_invited, session_image}
-use Rattle.sc_core.specs.Changes.{at_session, queue_at, tell}
+use Rattle.sc_core.specs.Changes.{at_session, queue_at}
 use Rattle.sc_core.specs.Deliveries.{cut_off, queue, without_invoke}
-use Rattle.sc_core.specs.Drafts.{IsBorn, IsOfStep, Stepper}
+use Rattle.sc_core.specs.Drafts.{IsOfStep, Stepper}
 use Rattle.sc_core.specs.Endings.{is_left_by}
 use Rattle.sc_core.specs.Hosts.{is_live, with_session}
 use Rattle.sc_core.specs.Installing.{CanApply, CanApplyAll, apply, installed}
-use Rattle.sc_core.specs.Parting.{is_cut, is_cut_in, is_left, left_if, new_left, old_left, put_left}
+use Rattle.sc_core.specs.Parting.{is_cut, is_cut_in, left_if, new_left, old_left, put_left}
 use Rattle.sc_core.specs.declared.change.Change.{Change}
 use Rattle.sc_core.specs.declared.change.Change.TheVariants.{Advance, Bear, Count, CutOff, Delay, DropInvoke, End, Fire, Flag, Install, Lose, PutState, Queue, Start, TakeFront, Tell, Undo}
 use Rattle.sc_core.specs.declared.draft.Placed.{Placed}
@@ -450,9 +449,19 @@ left_is {P = P} who cs items place a births ss over seen linked places of same =
     let alike : length (cut_where f 0 own) ≡ length front_is =
     cut_long f 0 own ∙ map_long (λ (x : Session). x.invoker) items ∙ sym (front_long place a 0 items) in
     let many : length (born_links cs) ≡ length births =
-    omega (arith, ap length seen, ap length linked, map_long sight ss, map_long (λ (s : SessionImage). s.invoker) ss,
-    cut_long f 0 (own ++ born_links cs), both_long own (born_links cs), both_long front_is (map born_sight births),
-    map_long born_sight births, front_long place a 0 items, map_long (λ (x : Session). x.invoker) items) in
+    omega (
+      arith,
+      ap length seen,
+      ap length linked,
+      map_long sight ss,
+      map_long (λ (s : SessionImage). s.invoker) ss,
+      cut_long f 0 (own ++ born_links cs),
+      both_long own (born_links cs),
+      both_long front_is (map born_sight births),
+      map_long born_sight births,
+      front_long place a 0 items,
+      map_long (λ (x : Session). x.invoker) items,
+    ) in
     placed_seen who.name 0 ss
     ∙ ap (λ xs. placed_in who.name 0 xs (map (λ (s : SessionImage). s.invoker) ss)) seen
     ∙ ap (placed_in who.name 0 (front_is ++ map born_sight births)) (linked ∙ cut_both f 0 own (born_links cs)

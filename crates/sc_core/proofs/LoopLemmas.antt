@@ -1,5 +1,5 @@
 -- Loops that go through a list by its places, and loops over what a session leaves behind.
-use Rattle.std.proofs.Common.{cond, ◌≡◌, ℕ, ◌+◌, ◌++◌, ◌||◌, zero, suc, not, Bool, true, false, Option, Some, None, option_and_then, filter, List, [], ◌∷◌, append-nil, drop, slice_get, refl, arith, sym, ap, ◌∙◌}
+use Rattle.std.proofs.Common.{cond, ◌≡◌, ℕ, ◌+◌, ◌++◌, ◌||◌, zero, suc, not, Bool, true, false, Option, Some, None, option_and_then, List, [], ◌∷◌, append-nil, drop, slice_get, refl, arith, sym, ap, ◌∙◌}
 use Rattle.std.specs.List.{list_any}
 use Rattle.std.proofs.lemmas.List.{drop_all, drop_more}
 use Rattle.std.proofs.lemmas.Option.{get_or_from_slice_get, slice_get_within}

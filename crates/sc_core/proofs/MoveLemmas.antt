@@ -328,7 +328,6 @@ fits_moved g h given (queues place s e there is gift) all =
     subst (λ (x : HostImage). All (FitsChart x) x.sessions) (sym is)
     (All-set (FitsChart q) g.sessions place _ (fits-same g q _ refl (record { chart = own.chart; fits = own.fits }))
     (λ i d l. fits-same g q (get_or g.sessions i d) refl (all i d l)))
-
 fits_moved g h given (bears s queued new fits sessions events charts commands is) all =
     subst (All (FitsChart h)) (sym sessions)
     (All-push (FitsChart h) g.sessions s (λ i d l. fits-same g h (get_or g.sessions i d) charts (all i d l))

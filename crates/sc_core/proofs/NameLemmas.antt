@@ -184,9 +184,10 @@ any_parted f named name (x ∷ xs) =
 distinct_parted : (f : SessionImage → SessionImage) → ((s : SessionImage) → (f s).state.session ≡ s.state.session)
     → (xs : List SessionImage) → AreDistinct xs → AreDistinct (map f xs)
 distinct_parted f named [] h = tt
-distinct_parted f named (x ∷ xs) h =
-    (ap (λ n. list_any (is_session_named n) (map f xs)) (named x) ∙ any_parted f named x.state.session xs ∙ h.0,
-    distinct_parted f named xs h.1)
+distinct_parted f named (x ∷ xs) h = (
+  ap (λ n. list_any (is_session_named n) (map f xs)) (named x) ∙ any_parted f named x.state.session xs ∙ h.0,
+  distinct_parted f named xs h.1,
+)
 
 -- a move leaves each session a name of its own
 pub distinct_moved : (g h : HostImage) (given : List Gift) → Move g h given → AreDistinct g.sessions → AreDistinct h.sessions

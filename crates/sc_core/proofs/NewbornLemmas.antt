@@ -1,6 +1,6 @@
 -- Sessions that are born with room for events.
-use Rattle.std.proofs.Common.{◌≡◌, ℕ, ◌+◌, ◌-◌, ◌<◌, ◌≤◌, ◌++◌, ◌||◌, nat_le, zero, suc, Bool, true, false, Some, None, unwrap_or, List, [], ◌∷◌, append-nil, length, length-append, slice_get, refl, arith, sym, ap, subst, ◌∙◌}
-use Rattle.std.specs.List.{AllByRecursion, list_any}
+use Rattle.std.proofs.Common.{◌≡◌, ℕ, ◌+◌, ◌-◌, ◌<◌, ◌≤◌, ◌++◌, ◌||◌, nat_le, zero, suc, Bool, true, false, List, [], ◌∷◌, append-nil, length, length-append, refl, arith, sym, ap, subst, ◌∙◌}
+use Rattle.std.specs.List.{AllByRecursion}
 use Rattle.std.proofs.lemmas.Bool.Decides.{nat_tests}
 use Rattle.sc_rooms.specs.Rooms.{RoomyOf}
 use Rattle.sc_types.specs.declared.chart.Chart.{Chart}
@@ -35,15 +35,23 @@ made_alike {P = P} g c d (same is) =
 made_alike {P = P} g c d (born invoker name s w one two r) =
     subst (λ x. MadeAlike g x d) (sym one) (subst (MadeAlike g (Bear invoker name s)) (sym two) (record {
       makes = ap (λ x. record g { sessions = g.sessions ++ x ∷ [] }) (roomier_image s w r);
-      can = λ can. (ap (λ (x : Session). x.state.session) r.is ∙ can.0, can.1, child_alike g invoker s w r can.2,
-          ap (λ (x : Session). x.children.items) r.is ∙ can.3);
+      can = λ can. (
+        ap (λ (x : Session). x.state.session) r.is ∙ can.0,
+        can.1,
+        child_alike g invoker s w r can.2,
+        ap (λ (x : Session). x.children.items) r.is ∙ can.3,
+      );
       target = λ n t. t;
     }))
 made_alike {P = P} g c d (started name s w one two r) =
     subst (λ x. MadeAlike g x d) (sym one) (subst (MadeAlike g (Start name s)) (sym two) (record {
       makes = ap (λ x. record g { sessions = g.sessions ++ x ∷ [] }) (roomier_image s w r);
-      can = λ can. (ap (λ (x : Session). x.state.session) r.is ∙ can.0, can.1, ap (λ (x : Session). x.invoker) r.is ∙ can.2,
-          ap (λ (x : Session). x.children.items) r.is ∙ can.3);
+      can = λ can. (
+        ap (λ (x : Session). x.state.session) r.is ∙ can.0,
+        can.1,
+        ap (λ (x : Session). x.invoker) r.is ∙ can.2,
+        ap (λ (x : Session). x.children.items) r.is ∙ can.3,
+      );
       target = λ n t. t;
     }))
 

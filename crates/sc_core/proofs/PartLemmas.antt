@@ -1,24 +1,16 @@
 -- The children that a session leaves behind as it ends.
-use Rattle.std.proofs.Common.{cond, ◌≡◌, ℕ, ◌+◌, ◌<◌, ◌≤◌, ◌==◌, ◌&&◌, ◌||◌, ◌++◌, zero, suc, nat_lt, not, Bool, true, false, Option, Some, None, option_map, option_and_then, if◌then◌else◌, filter, filter_map, List, [], ◌∷◌, length, map, slice_get, slice_set, refl, arith, sym, ap, subst, ◌∙◌}
-use Rattle.std.specs.List.{AllByRecursion, list_any}
+use Rattle.std.proofs.Common.{cond, ◌≡◌, ℕ, ◌+◌, ◌<◌, ◌++◌, Bool, true, false, Some, if◌then◌else◌, filter, List, [], ◌∷◌, length, map, slice_get, slice_set, refl, arith, sym, ap, subst, ◌∙◌}
 use Rattle.std.specs.Option.{option_map_or}
-use Rattle.std.specs.Str.{bytes_eq}
-use Rattle.std.proofs.lemmas.Bool.Decides.{nat_tests}
-use Rattle.std.proofs.lemmas.List.{length-set, map-set}
-use Rattle.std.proofs.lemmas.Option.{slice_get-map, slice_get_within}
-use Rattle.sc_types.specs.declared.history.Delivery.{Delivery}
+use Rattle.std.proofs.lemmas.Option.{slice_get_within}
 use Rattle.sc_types.specs.declared.history.Delivery.TheVariants.{Flagged}
 use Rattle.sc_types.specs.declared.host.HostImage.{HostImage}
 use Rattle.sc_types.specs.declared.host.SessionImage.{SessionImage}
-use Rattle.sc_core.specs.Changes.{at_session, cut_off_at}
+use Rattle.sc_core.specs.Changes.{cut_off_at}
 use Rattle.sc_core.specs.Deliveries.{cut_off}
-use Rattle.sc_core.specs.Endings.{is_left_by}
 use Rattle.sc_core.specs.Hosts.{with_session}
-use Rattle.sc_core.specs.Installing.{CanApplyAll, HaveTargets, apply, installed}
-use Rattle.sc_core.specs.HostStates.{ArePlanned}
+use Rattle.sc_core.specs.Installing.{CanApplyAll, HaveTargets, installed}
 use Rattle.sc_core.specs.Parting.{cut_changes, cut_told}
 use Rattle.sc_core.specs.declared.change.Change.{Change}
-use Rattle.sc_core.specs.declared.change.Change.TheVariants.{CutOff}
 use Rattle.sc_core.specs.declared.draft.Placed.{Placed}
 
 -- ---- sessions that pass a test, by their names and places

@@ -1,5 +1,5 @@
 -- One session of the body is changed.
-use Rattle.std.proofs.Common.{All, IfNone, IfSome, Bool, true, false, not, filter, drop, ◌++◌, MatchOption, ◌≡◌, ℕ, ◌+◌, ◌<◌, ◌≤◌, zero, suc, Option, None, Some, List, [], ◌∷◌, length, map, get_or, slice_get, slice_set, option_map, refl, arith, ap, subst, sym, ◌∙◌, ◌-◌, ◌||◌, cond, nat_lt}
+use Rattle.std.proofs.Common.{All, IfNone, IfSome, Bool, true, false, not, drop, ◌++◌, MatchOption, ◌≡◌, ℕ, ◌+◌, ◌<◌, ◌≤◌, zero, suc, Option, None, Some, List, [], ◌∷◌, length, map, get_or, slice_get, slice_set, option_map, refl, arith, ap, subst, sym, ◌∙◌, ◌-◌, ◌||◌, cond, nat_lt}
 use Rattle.std.proofs.Math.Seq.{map-set_same}
 use Rattle.std.proofs.lemmas.List.{map-set}
 use Rattle.std.proofs.lemmas.Option.{get_or_from_slice_get, slice_get-map, slice_get_within}
@@ -21,7 +21,6 @@ use Rattle.sc_rooms.specs.Rooms.{place_of}
 use Rattle.std.specs.Str.{bytes_eq}
 use Rattle.sc_core.specs.declared.body.InstalledChart.{InstalledChart}
 use Rattle.sc_core.specs.Hosts.{chart_place, is_chart_named, is_live, is_session_named, session_place, with_session}
-use Rattle.sc_types.specs.Sends.{is_of}
 use Rattle.sc_types.specs.declared.session.Phase.{Phase}
 use Rattle.sc_types.specs.declared.session.Phase.TheVariants as phase
 use Rattle.sc_core.specs.declared.body.Body.{Body}
@@ -324,10 +323,12 @@ start_makes h s sessions ready agrees adds new nobody none =
 -- a session is born of the one at a place, which has one child more
 pub bear_makes : {P : Type 0} (h : Body P) (s invoker grown : Session) (place : ℕ) (own : List ℕ) (sessions : NamedOf Session)
     (ready : PlacesOf) → Agrees h → AreDistinct h.sessions.names → slice_get h.sessions.items place ≡ Some invoker
-    → grown ≡ record invoker { children = record {
-      items = invoker.children.items ++ length h.sessions.items ∷ [];
-      spare = invoker.children.spare - 1;
-    } }
+    → grown ≡ record invoker {
+      children = record {
+        items = invoker.children.items ++ length h.sessions.items ∷ [];
+        spare = invoker.children.spare - 1;
+      };
+    }
     → AddsOne h s (slice_set h.sessions.items place grown) sessions ready → place_of s.state.session h.sessions.names ≡ None
     → inviter s ≡ Some own → own ≡ invoker.state.session → s.children.items ≡ []
     → Makes (with_started (image h) s) h (record h { sessions = sessions; ready = ready })

@@ -1,5 +1,5 @@
 -- What is prepared of a step is the step.
-use Rattle.std.proofs.Common.{append-nil, get_or, ◌≡◌, ℕ, ◌+◌, ◌^◌, ◌<◌, ◌++◌, zero, suc, Some, List, [], ◌∷◌, drop, length, option_map, slice_get, slice_set, refl, sym, ap, subst, ◌∙◌, arith, ◌≤◌, ◌-◌, length-append, map}
+use Rattle.std.proofs.Common.{append-nil, get_or, ◌≡◌, ℕ, ◌+◌, ◌^◌, ◌<◌, ◌++◌, zero, suc, Some, List, [], ◌∷◌, drop, length, option_map, slice_get, slice_set, refl, sym, ap, subst, ◌∙◌, arith, ◌≤◌, ◌-◌, length-append}
 use Rattle.std.specs.List.{AllByRecursion}
 use Rattle.std.specs.Option.{option_map_or}
 use Rattle.std.proofs.lemmas.List.{append_assoc, length-set, map-set}
@@ -19,10 +19,10 @@ use Rattle.sc_core.specs.Changes.{put_state, take_front}
 use Rattle.sc_core.specs.Commands.{fresh_session, put_in, step_turn}
 use Rattle.sc_core.specs.Deliveries.{DeliveredAll, deliver, deliver_all}
 use Rattle.sc_core.specs.Endings.{end_at}
-use Rattle.sc_core.specs.Drafts.{AreNumbered, DraftsAll, IsBase, IsDraft, IsOfStep, IsSender, Notes, Stepper, own, own_at, so_far, stepper}
+use Rattle.sc_core.specs.Drafts.{AreNumbered, DraftsAll, IsBase, IsDraft, IsOfStep, IsSender, Notes, Stepper, own, so_far, stepper}
 use Rattle.sc_core.specs.Hosts.{with_session}
 use Rattle.sc_core.specs.HostStates.{ArePlanned}
-use Rattle.sc_core.specs.Installing.{AreRoomy, CanApplyAll, HaveTargets, IsRoomy, apply, installed, new_rooms, room_at}
+use Rattle.sc_core.specs.Installing.{AreRoomy, CanApplyAll, HaveTargets, IsRoomy, installed, new_rooms, room_at}
 use Rattle.sc_core.specs.Newborns.{AreAlike}
 use Rattle.sc_core.specs.Parting.{DraftsEnd}
 use Rattle.sc_core.specs.Preparing.{InstallNone, Prepares}

@@ -1,5 +1,5 @@
 -- The host's body as the host machine that it stands for. Only private clauses cite these definitions.
-use Rattle.std.specs.Prelude.{ℕ, ◌+◌, ◌≡◌, ◌≤◌, ◌==◌, not, filter, Bool, false, if◌then◌else◌, Option, None, option_map, List, [], ◌∷◌, ◌++◌, map, slice_get}
+use Rattle.std.specs.Prelude.{ℕ, ◌+◌, ◌≡◌, ◌≤◌, ◌==◌, not, filter, Bool, false, if◌then◌else◌, Option, option_map, List, [], ◌∷◌, ◌++◌, map, slice_get}
 use Rattle.std.specs.Option.{option_map_or}
 use Rattle.std.specs.Str.{bytes_eq}
 use Rattle.sc_types.specs.declared.host.HostImage.{HostImage}

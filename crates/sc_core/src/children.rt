@@ -11,7 +11,7 @@ use crate::body::Body;
 use crate::changes::mark;
 use crate::session::{Session, is_ready};
 use sc_base::{Sequence, Word};
-use sc_types::{InvokerImage, Invoked};
+use sc_types::{Invoked, InvokerImage};
 
 /// Cuts a session off from its invoker.
 fn cut(invoker: &mut Option<InvokerImage>)

@@ -102,8 +102,8 @@ impl<P: Drop> Body<P> {
     ) -> Result<Delivery, NoMemory>
         requires number { draft.old.events + 1 < 2 ^ 128 }
         ensures made { IfOk result (λ told. (draft.new ≡ record draft.old {
-            changes = draft.old.changes ++ change.Queue place event ∷ [];
-            events = draft.old.events + 1;
+          changes = draft.old.changes ++ change.Queue place event ∷ [];
+          events = draft.old.events + 1;
         }) × (told ≡ Delivery.Queued (draft.old.events + 1) session)) }
     {
         let number = draft.events + 1;
@@ -141,7 +141,12 @@ impl<P: Drop> Body<P> {
             return self.draft_failure(alloc, draft, place, after, &event.sendid);
         };
         let invokeid = invokeid_for(invoker, name)?;
-        self.draft_queue(draft, receiver, name.copy()?, with_invokeid(event, invokeid))
+        self.draft_queue(
+            draft,
+            receiver,
+            name.copy()?,
+            with_invokeid(event, invokeid),
+        )
     }
 
     /// Prepares that the session at a place sends an event.

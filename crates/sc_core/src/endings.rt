@@ -112,8 +112,8 @@ fn add_births<P>(
 /// Prepares that these children are cancelled.
 fn draft_left<P: Drop>(draft: &mut Draft<P>, children: Sequence<Placed>) -> Result<(), NoMemory>
     ensures { OnOk result (draft.new ≡ record draft.old {
-        changes = draft.old.changes ++ cut_changes children;
-        sent = draft.old.sent ++ cut_told children;
+      changes = draft.old.changes ++ cut_changes children;
+      sent = draft.old.sent ++ cut_told children;
     }) }
 {
     for child in children.into_vec() {

@@ -19,9 +19,7 @@ use crate::session::{Session, is_running};
 use crate::starts::fresh_state;
 use sc_base::{NoMemory, Plain, Sequence, SharedBytes, Word};
 use sc_rooms::RoomyQueue;
-use sc_types::{
-    Delivery, Event, INVOKE_DEPTH_LIMIT, InvokerImage, PairList, SessionState,
-};
+use sc_types::{Delivery, Event, INVOKE_DEPTH_LIMIT, InvokerImage, PairList, SessionState};
 use std::alloc::Global;
 
 /// A session to be started: the id of the invocation, the session's name, its chart's, and what it is started with.
@@ -42,11 +40,11 @@ fn child_session(
     invocation: Invocation,
 ) -> Result<Session, NoMemory>
     ensures image { IfOk result (λ s. session_image s ≡ record {
-        state = fresh_state invocation.child invocation.chart invocation.pairs;
-        queued = [];
-        flagged = false;
-        invoker = Some (record { session = invoker.now; invokeid = invocation.invokeid; cut = false });
-        depth = depth;
+      state = fresh_state invocation.child invocation.chart invocation.pairs;
+      queued = [];
+      flagged = false;
+      invoker = Some (record { session = invoker.now; invokeid = invocation.invokeid; cut = false });
+      depth = depth;
     }) }
     ensures children { IfOk result (λ s. s.children.items ≡ []) }
 {

@@ -16,7 +16,9 @@ use crate::session::Session;
 use sc_base::{Bytes, NoMemory, Plain, Queue, Sequence, Word};
 use sc_law::Engine;
 use sc_rooms::RoomyQueue;
-use sc_types::{ChartImage, ChartRefusal, NAME_LIMIT, PairList, Phase, Refusal, Reply, SessionState};
+use sc_types::{
+    ChartImage, ChartRefusal, NAME_LIMIT, PairList, Phase, Refusal, Reply, SessionState,
+};
 use sc_valid::LegalChart;
 use std::alloc::Global;
 

@@ -1,4 +1,4 @@
-use Rattle.std.proofs.Common.{◌≡◌, not, filter, rules, ap, ◌∙◌}
+use Rattle.std.proofs.Common.{not, filter, rules, ap, ◌∙◌}
 use Rattle.std.specs.Str.{bytes_eq}
 use Rattle.std.proofs.lemmas.Fn.{filter_same}
 use Rattle.sc_types.specs.declared.session.Invoked.{Invoked}

@@ -1,4 +1,3 @@
-use Rattle.std.proofs.Common.{refl, ap, arith}
 use Rattle.sc_core.proofs.NewbornLemmas.{roomier, roomier_same}
 use Rattle.sc_core.proofs.newborns.with_room.Goals as goal
 

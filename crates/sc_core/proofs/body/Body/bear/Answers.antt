@@ -1,4 +1,4 @@
-use Rattle.std.proofs.Common.{◌≡◌, ◌-◌, ◌∷◌, ◌++◌, [], Some, None, length, map, option_map, slice_get, slice_set, refl, ap, sym, subst, arith, ◌∙◌}
+use Rattle.std.proofs.Common.{◌≡◌, ◌-◌, ◌∷◌, ◌++◌, [], None, option_map, slice_get, slice_set, ap, sym, subst, arith, ◌∙◌}
 use Rattle.std.proofs.lemmas.List.{length-set}
 use Rattle.std.proofs.lemmas.Option.{same_Some}
 use Rattle.sc_rooms.specs.Rooms.{RoomyOf, place_of}

@@ -1,4 +1,4 @@
-use Rattle.std.proofs.Common.{Option, Some, None, ◌≡◌, List, ℕ, option_map, ap, refl, arith, ◌∙◌}
+use Rattle.std.proofs.Common.{option_map, ap, refl, arith, ◌∙◌}
 use Rattle.sc_types.specs.declared.host.InvokerImage.{InvokerImage}
 use Rattle.sc_core.specs.Bodies.{image, marked}
 use Rattle.sc_core.specs.Deliveries.{cut_off}

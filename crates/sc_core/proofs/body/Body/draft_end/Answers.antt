@@ -1,4 +1,4 @@
-use Rattle.std.proofs.Common.{◌≡◌, true, refl, ap, sym, ◌∙◌}
+use Rattle.std.proofs.Common.{ap, ◌∙◌}
 use Rattle.sc_core.specs.Bodies.{image}
 use Rattle.sc_core.specs.Drafts.{so_far}
 use Rattle.sc_core.specs.Hosts.{is_live}

@@ -1,4 +1,4 @@
-use Rattle.std.proofs.Common.{◌≡◌, ◌++◌, ◌∷◌, [], Some, None, ap, refl, sym, ◌∙◌}
+use Rattle.std.proofs.Common.{Some, ap, refl}
 use Rattle.sc_types.specs.declared.history.Delivery.TheVariants.{Dropped}
 use Rattle.sc_core.specs.Bodies.{image}
 use Rattle.sc_core.specs.Deliveries.{hand_to, left_as, while_live}

@@ -1,5 +1,4 @@
-use Rattle.std.proofs.Common.{◌≡◌, ◌+◌, ◌&&◌, None, Some, false, true, not, is_some, nat_lt, option_map, slice_get, refl, arith, ap, sym, ◌∙◌}
-use Rattle.sc_types.specs.declared.host.SessionImage.{SessionImage}
+use Rattle.std.proofs.Common.{◌≡◌, ◌&&◌, false, true, not, is_some, nat_lt, slice_get, sym, ◌∙◌}
 use Rattle.sc_types.specs.declared.limits.TheConstants.{INVOKE_DEPTH_LIMIT}
 use Rattle.sc_core.specs.Bodies.{image}
 use Rattle.sc_core.specs.Deliveries.{born, invoke, may_bear, unborn}

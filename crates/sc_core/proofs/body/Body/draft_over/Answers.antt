@@ -1,15 +1,13 @@
-use Rattle.std.proofs.Common.{◌≡◌, ◌+◌, ◌^◌, ◌<◌, ◌++◌, ◌∷◌, [], Some, None, false, map, option_map, slice_get, refl, arith, ap, subst, sym, ◌∙◌}
+use Rattle.std.proofs.Common.{◌≡◌, ◌++◌, false, map, option_map, arith, ap, subst, sym, ◌∙◌}
 use Rattle.std.proofs.lemmas.Option.{same_Some}
 use Rattle.sc_types.specs.declared.host.SessionImage.{SessionImage}
 use Rattle.sc_core.specs.Births.{IsGrown}
-use Rattle.sc_core.specs.Bodies.{children_of, image, inviter, session_image}
+use Rattle.sc_core.specs.Bodies.{children_of, image, inviter}
 use Rattle.sc_core.specs.Changes.{put_state}
-use Rattle.sc_core.specs.Deliveries.{DeliveredAll}
 use Rattle.sc_core.specs.Drafts.{so_far}
 use Rattle.sc_core.specs.Endings.{cleared, tell_end, with_children_left}
 use Rattle.sc_core.specs.Hosts.{is_live}
-use Rattle.sc_core.specs.Parting.{Adds, cut_changes, cut_told, new_left, old_left}
-use Rattle.sc_core.specs.declared.draft.Draft.{Draft}
+use Rattle.sc_core.specs.Parting.{Adds, cut_changes, new_left, old_left}
 use Rattle.sc_core.proofs.DraftLemmas.{sender_grown, sender_there}
 use Rattle.sc_core.proofs.EndLemmas.{body_at, children_are, end_drafted, left_grown, left_of}
 use Rattle.sc_core.proofs.RoomLemmas.{on_ok}

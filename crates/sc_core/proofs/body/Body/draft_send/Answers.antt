@@ -1,4 +1,4 @@
-use Rattle.std.proofs.Common.{Some, None, ap, refl, sym, ◌∙◌}
+use Rattle.std.proofs.Common.{Some, ap, refl, sym}
 use Rattle.sc_core.specs.Bodies.{image}
 use Rattle.sc_core.specs.Deliveries.{send_named, send_now, unreachable}
 use Rattle.sc_core.specs.Drafts.{so_far, stepper}

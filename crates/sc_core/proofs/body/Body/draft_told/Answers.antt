@@ -1,4 +1,4 @@
-use Rattle.std.proofs.Common.{◌≡◌, ◌+◌, ◌^◌, ◌<◌, ◌++◌, ◌∷◌, [], Some, None, true, false, refl, arith, ap, sym, ◌∙◌}
+use Rattle.std.proofs.Common.{◌+◌, ap, ◌∙◌}
 use Rattle.sc_types.specs.declared.history.Delivery.TheVariants.{Queued}
 use Rattle.sc_core.proofs.DraftLemmas.{each_ok, found_there, none_there}
 use Rattle.sc_core.proofs.EndLemmas.{told_cut, told_none, told_queued}

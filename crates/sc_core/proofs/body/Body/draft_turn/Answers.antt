@@ -1,4 +1,4 @@
-use Rattle.std.proofs.Common.{List, append_assoc, ◌≡◌, ◌+◌, ◌^◌, ◌∷◌, [], ◌++◌, option_map, slice_get, length, refl, arith, sym, subst, ap, ◌∙◌}
+use Rattle.std.proofs.Common.{List, append_assoc, ◌≡◌, ◌∷◌, [], ◌++◌, option_map, length, refl, arith, sym, subst, ap, ◌∙◌}
 use Rattle.std.proofs.lemmas.Option.{same_Some, slice_get_within}
 use Rattle.sc_types.specs.declared.command.Reply.TheVariants.{Stepped}
 use Rattle.std.specs.List.{AllByRecursion}

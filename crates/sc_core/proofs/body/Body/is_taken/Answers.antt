@@ -1,7 +1,6 @@
-use Rattle.std.proofs.Common.{◌≡◌, ◌||◌, true, false, is_some, ap, sym, ◌∙◌}
+use Rattle.std.proofs.Common.{◌||◌, is_some, ap, sym, ◌∙◌}
 use Rattle.sc_core.specs.Bodies.{image}
 use Rattle.sc_core.specs.Births.{birth_place}
-use Rattle.sc_core.specs.Hosts.{session_place}
 use Rattle.sc_core.proofs.BirthLemmas.{taken_is}
 use Rattle.sc_core.proofs.body.Body.is_taken.Goals as goal
 
