@@ -30,7 +30,11 @@ pub(crate) fn enqueue(run: &mut Running, event: Event) -> Result<(), NoMemory>
 }
 
 /// Puts `error.execution` at the back of the internal queue, with the id of a send that failed. SCXML 3.12.2.
-pub fn enqueue_failure(alloc: Global, run: &mut Running, sendid: SharedBytes) -> Result<(), NoMemory>
+pub fn enqueue_failure(
+    alloc: Global,
+    run: &mut Running,
+    sendid: SharedBytes,
+) -> Result<(), NoMemory>
     ensures ok { OnOk result (running_of run.new ≡ failed sendid (running_of run.old)) }
     ensures kept { KeepsRows run.old run.new }
 {

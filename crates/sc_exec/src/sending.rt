@@ -298,7 +298,11 @@ fn send_with(
 
 /// SCXML 6.2.
 #[tactic(auto, unfolding(sc_law::specs::Sending::send))]
-pub(crate) fn send(alloc: Global, run: &mut Running, node: &Node) -> Result<(), Failure<SharedBytes>>
+pub(crate) fn send(
+    alloc: Global,
+    run: &mut Running,
+    node: &Node,
+) -> Result<(), Failure<SharedBytes>>
     requires { HasIds run.old.env }
     ensures outcome { Does result run.new (send (members_of node.now) (children_of node.now) (running_of run.old)) }
     ensures kept { KeepsRows run.old run.new }

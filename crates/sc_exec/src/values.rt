@@ -64,7 +64,11 @@ pub(crate) fn needed(
 }
 
 /// Gives a datum a value. SCXML 5.4.
-pub(crate) fn write(run: &mut Running, name: &[u8], value: Value) -> Result<(), Failure<SharedBytes>>
+pub(crate) fn write(
+    run: &mut Running,
+    name: &[u8],
+    value: Value,
+) -> Result<(), Failure<SharedBytes>>
     ensures outcome { Does result run.new (write name.now value (running_of run.old)) }
     ensures kept { KeepsRows run.old run.new }
 {
