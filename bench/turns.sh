@@ -4,8 +4,13 @@
 # Run `rt run` in crates/sc_turn_bench first, or name another program on the command line.
 # A time is processor time: that of many turns less that of one, over the difference, each the least of five runs. The
 # instructions are those of 2,001 turns less those of one, as valgrind counts them.
+# Where a second program is named that measures the first three charts in Qt SCXML, the same run gives the ratios to it.
+# It takes a number of seconds for each chart, and writes lines that begin `N:`, `toggle` and `three regions that all
+# move`, each with the number of events before `events/s`; those below a line `-- batches of 1000` count.
+# usage: bench/turns.sh [PROGRAM [QT_PROGRAM]]
 cd "$(dirname "$0")/.." || exit 1
 program=${1:-$PWD/crates/sc_turn_bench/out/sc_turn_bench}
+peer=${2:-}
 folder=$(mktemp -d)
 trap 'rm -r "$folder"' EXIT
 
@@ -39,6 +44,17 @@ instructions() { # TURNS
         sed -n 's/.*Collected : //p'
 }
 
+peer_rate() { # CHART: the other program's events a second
+    sed -n '/^-- batches of 1000/,$p' "$folder/peer" |
+        awk -v chart="$1" 'index($0, chart) == 1 { for (i = 2; i <= NF; i++) if ($i == "events/s") print $(i - 1) }'
+}
+
+compare() { # CHART: the ratio to the other program, where there is one
+    [ -n "$peer" ] || return 0
+    rate=$(peer_rate "$1")
+    echo "    $(echo "scale=1; 1000000000 / $took / $rate" | bc) times as many as Qt SCXML, which takes $rate events a second"
+}
+
 measure() { # NAME TURNS CHILDREN: a chart with these children of its root
     printf '{"tag":"scxml","kids":[%s]}\n' "$3" > "$folder/chart"
     took=$(echo "($(seconds "$2") - $(seconds 1)) * 1000000000 / ($2 - 1)" | bc)
@@ -46,13 +62,17 @@ measure() { # NAME TURNS CHILDREN: a chart with these children of its root
     echo "$1: $took ns a turn, $((1000000000 / took)) turns a second, $count instructions a turn"
 }
 
+[ -z "$peer" ] || QT_QPA_PLATFORM=offscreen "$peer" 2 > "$folder/peer"
 toggle="$(state a b),$(state b a)"
 datum='{"tag":"datamodel","kids":[{"tag":"data","id":"n","expr":"0"}]}'
 assign='{"tag":"assign","location":"n","expr":"n + 1"}'
 measure "a toggle of two states" 1000001 "$toggle"
+compare "toggle"
 measure "n = n + 1" 1000001 "$datum"',{"tag":"state","kids":[{"tag":"transition","event":"e","kids":['"$assign"']}]}'
+compare "N:"
 measure "three regions that all move" 300001 \
     '{"tag":"parallel","kids":['"$(region a b),$(region c d),$(region f g)"']}'
+compare "three regions that all move"
 measure "a toggle among 4 states" 1000001 "$toggle$(more 2)"
 few=$took
 measure "a toggle among 4096 states" 300001 "$toggle$(more 4094)"

@@ -29,6 +29,13 @@ impl<T> Boxed<T> {
     {
         &self.inner
     }
+
+    /// The value, out of its place.
+    pub fn into_inner(self) -> T
+        ensures { result ≡ self }
+    {
+        Box::into_inner(self.inner)
+    }
 }
 
 impl<T: Drop> Boxed<T> {

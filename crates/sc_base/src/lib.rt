@@ -10,6 +10,7 @@ mod memory;
 mod plain;
 mod queue;
 mod sequence;
+mod shared;
 mod shared_bytes;
 mod small_bytes;
 mod text;
@@ -22,6 +23,7 @@ pub use memory::NoMemory;
 pub use plain::Plain;
 pub use queue::Queue;
 pub use sequence::Sequence;
+pub use shared::Shared;
 pub use shared_bytes::SharedBytes;
 pub use text::{
     Name, PLAIN_NAME_LIMIT, PlainName, TEXT_LIMIT, Unfit, Word, is_plain_name, is_text, is_utf8,

@@ -7,7 +7,7 @@ ghost use Rattle.sc_eval.specs.Envs.{env_of};
 
 use crate::data_table::DataTable;
 use crate::ids::Ids;
-use sc_base::{Bytes, NoMemory, Plain, PlainName, Word};
+use sc_base::{Bytes, NoMemory, Plain, PlainName, Shared, Word};
 use sc_bits::Row;
 use sc_types::{EvalFault, Event, Value};
 use std::sync::Arc;
@@ -21,7 +21,7 @@ pub struct Env {
     /// The ids of the chart's states, below the width of `configuration`.
     pub ids: Arc<Ids>,
     /// The event that `_event` names.
-    pub bound: Option<Event>,
+    pub bound: Option<Shared<Event>>,
     /// `_sessionid`; at most 1,024 bytes.
     pub session: Word,
     /// `_name`; such as a text of the data model may be.

@@ -106,7 +106,7 @@ pub(crate) fn field(alloc: Global, env: &Env, field: &EventField) -> Result<Valu
     ensures { Gives result (or_unknown (option_and_then (field_value field.now) env.now.bound)) }
 {
     match &env.bound {
-        Some(event) => field_of(alloc, event, field),
+        Some(event) => field_of(alloc, event.get(), field),
         None => Err(EvalFault::Unknown),
     }
 }

@@ -3,7 +3,7 @@ ghost use Rattle.std.specs.Arc.{arc_value};
 ghost use Rattle.sc_law.specs.Turn.{turn};
 ghost use Rattle.sc_law.specs.Turned.{IsTurn};
 
-use sc_types::{Chart, Cue, Effect, LogLine, Sequence, SessionState};
+use sc_types::{Boxed, Chart, Cue, Effect, LogLine, Sequence, SessionState};
 use std::marker::Model;
 use std::sync::Arc;
 
@@ -13,9 +13,9 @@ use std::sync::Arc;
 #[derive(Debug, Drop)]
 pub struct Turned {
     chart: Arc<Chart>,
-    before: SessionState,
+    before: Boxed<SessionState>,
     cue: Cue,
-    after: SessionState,
+    after: Boxed<SessionState>,
     effects: Sequence<Effect>,
     logs: Sequence<LogLine>,
 }
@@ -49,9 +49,9 @@ impl Turned {
     /// A turn that an engine made: what it gave has to be the turn of the chart, the session before it and the cue.
     pub fn new(
         chart: Arc<Chart>,
-        before: SessionState,
+        before: Boxed<SessionState>,
         cue: Cue,
-        after: SessionState,
+        after: Boxed<SessionState>,
         effects: Sequence<Effect>,
         logs: Sequence<LogLine>,
     ) -> Turned
@@ -87,7 +87,7 @@ impl Turned {
     pub fn before(&self) -> &SessionState
         ensures { result.now ≡ self.now.before }
     {
-        &self.before
+        self.before.get()
     }
 
     pub fn cue(&self) -> &Cue
@@ -99,7 +99,7 @@ impl Turned {
     pub fn after(&self) -> &SessionState
         ensures { result.now ≡ self.now.after }
     {
-        &self.after
+        self.after.get()
     }
 
     /// What the host is to do, in this order.
@@ -120,6 +120,6 @@ impl Turned {
         ensures value { result ≡ (self.after, self.effects, self.logs) }
         ensures turn { IsTurn self }
     {
-        (self.after, self.effects, self.logs)
+        (self.after.into_inner(), self.effects, self.logs)
     }
 }

@@ -39,7 +39,8 @@ fn is_own_domain(t: &Tables, tr: u32, h: &Histories, own: u32, targets: &[u32]) 
     requires targets { All (λ s. s < state_count t.now) targets.now }
     ensures { result ≡ is_own_domain t.now tr (effective_targets t.now h.now targets.now) }
 {
-    is_internal(t, tr) && is_compound_state(t, own) && is_above_all(t, h, targets, own)
+    // The kind is asked first, since it is at hand, and the type is read from the element.
+    is_compound_state(t, own) && is_internal(t, tr) && is_above_all(t, h, targets, own)
 }
 
 /// Whether a number is that of a compound state; the root is none.

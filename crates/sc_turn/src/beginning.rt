@@ -16,7 +16,7 @@ ghost use Rattle.sc_tables.specs.Rows.{row_of};
 use crate::plan::Plan;
 use crate::rows::row_of;
 use crate::run_state::RunState;
-use sc_base::{Bytes, NoMemory, Plain, Queue, Sequence, Word};
+use sc_base::{Bytes, NoMemory, Plain, Queue, Sequence, Shared, Word};
 use sc_bits::Row;
 use sc_eval::{DataTable, Env};
 use sc_exec::Running;
@@ -29,7 +29,7 @@ pub(crate) fn begin(
     alloc: Global,
     plan: &Plan,
     before: &SessionState,
-    bound: Option<&Event>,
+    bound: Option<&Shared<Event>>,
 ) -> Result<RunState, NoMemory>
     requires { CanBegin plan.now before.now }
     ensures value { IfOk result (λ x. state_of x ≡ begun plan.now before.now (option_copied bound.entry)) }
@@ -45,7 +45,7 @@ fn begin_running(
     alloc: Global,
     plan: &Plan,
     before: &SessionState,
-    bound: Option<&Event>,
+    bound: Option<&Shared<Event>>,
 ) -> Result<Running, NoMemory>
     requires { CanBegin plan.now before.now }
     ensures value { IfOk result (λ r.
@@ -104,7 +104,7 @@ fn table(alloc: Global, before: &SessionState) -> Result<DataTable, NoMemory>
     DataTable::from_values(alloc, values)
 }
 
-fn copied(event: Option<&Event>) -> Result<Option<Event>, NoMemory>
+fn copied(event: Option<&Shared<Event>>) -> Result<Option<Shared<Event>>, NoMemory>
     ensures { IfOk result (λ e. e ≡ option_copied event.entry) }
 {
     match event {
@@ -118,7 +118,7 @@ fn begin_env(
     alloc: Global,
     plan: &Plan,
     before: &SessionState,
-    bound: Option<&Event>,
+    bound: Option<&Shared<Event>>,
 ) -> Result<Env, NoMemory>
     requires { CanBegin plan.now before.now }
     ensures value { IfOk result (λ e.

@@ -11,7 +11,7 @@ use crate::ending::{TurnResult, close, exit_active, finish};
 use crate::plan::Plan;
 use crate::rounds::{settle, take_external};
 use crate::run_state::RunState;
-use sc_base::{NoMemory, Plain};
+use sc_base::{Boxed, NoMemory, Plain, Shared};
 use sc_exec::first_data;
 use sc_law::{Engine, Turned};
 use sc_micro::enter_first;
@@ -60,7 +60,7 @@ fn given(
 }
 
 /// The event that `_event` names in the turn of a cue: the one that the cue brings, else the session's.
-fn bound_by<'a>(before: &'a SessionState, cue: &'a Cue) -> Option<&'a Event>
+fn bound_by<'a>(before: &'a SessionState, cue: &'a Cue) -> Option<&'a Shared<Event>>
     ensures { option_copied result ≡ bound_by cue.now before.now.bound }
 {
     match cue {
@@ -88,23 +88,24 @@ fn turned(
           logs = given.logs;
         }) }
 {
-    let (chart, before, cue) = copies(plan, before, cue)?;
+    let (chart, before, cue) = copies(alloc, plan, before, cue)?;
     Ok(Turned::new(chart, before, cue, given.after, given.effects, given.logs))
 }
 
 /// What a turn was made of.
 fn copies(
+    alloc: Global,
     plan: &Plan,
     before: &SessionState,
     cue: &Cue,
-) -> Result<(Arc<Chart>, SessionState, Cue), NoMemory>
+) -> Result<(Arc<Chart>, Boxed<SessionState>, Cue), NoMemory>
     ensures chart { IfOk result (λ cs. arc_value cs.0 ≡ plan.now) }
     ensures before { IfOk result (λ cs. cs.1 ≡ before.now) }
     ensures cue { IfOk result (λ cs. cs.2 ≡ cue.now) }
 {
     Ok((
         Arc::try_clone(plan.tables().chart())?,
-        before.copy()?,
+        before.boxed(alloc)?,
         cue.copy()?,
     ))
 }
@@ -134,7 +135,7 @@ fn run(
             Ok(Phase::Ended(How::Cancelled))
         }
         Cue::External(event) => {
-            take_external(alloc, x, plan.tables(), event)?;
+            take_external(alloc, x, plan.tables(), event.get())?;
             rounds(alloc, x, plan, plan.limit().saturating_sub(1))
         }
     }

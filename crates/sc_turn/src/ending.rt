@@ -6,7 +6,7 @@ ghost use Rattle.sc_turn.specs.States.{IsOver, state_of};
 
 use crate::rows::members;
 use crate::run_state::RunState;
-use sc_base::{NoMemory, Plain, Sequence};
+use sc_base::{Boxed, NoMemory, Plain, Sequence};
 use sc_eval::Env;
 use sc_exec::Running;
 use sc_micro::exit_all;
@@ -17,7 +17,7 @@ use std::alloc::Global;
 /// What a turn gives.
 #[derive(Debug, Drop)]
 pub(crate) struct TurnResult {
-    pub(crate) after: SessionState,
+    pub(crate) after: Boxed<SessionState>,
     pub(crate) effects: Sequence<Effect>,
     pub(crate) logs: Sequence<LogLine>,
 }
@@ -83,22 +83,23 @@ pub(crate) fn close(
     let session = before.session.copy()?;
     let chart = before.chart.copy()?;
     let params = before.params.copy()?;
+    let after = SessionState {
+        session,
+        chart,
+        phase,
+        configuration,
+        values: values.into_values(),
+        entered,
+        histories,
+        internal,
+        invokes,
+        bound,
+        params,
+        sends,
+        born,
+    };
     Ok(TurnResult {
-        after: SessionState {
-            session,
-            chart,
-            phase,
-            configuration,
-            values: values.into_values(),
-            entered,
-            histories,
-            internal,
-            invokes,
-            bound,
-            params,
-            sends,
-            born,
-        },
+        after: Boxed::new(alloc, after)?,
         effects,
         logs,
     })

@@ -10,7 +10,7 @@ use crate::finalizing::finalize;
 use crate::invoking::start_invokes;
 use crate::plan::Plan;
 use crate::run_state::RunState;
-use sc_base::{NoMemory, Plain};
+use sc_base::{NoMemory, Plain, Shared};
 use sc_micro::microstep;
 use sc_select::{ShortList, eventless, for_event};
 use sc_tables::Tables;
@@ -98,9 +98,10 @@ fn take_event(alloc: Global, x: &mut RunState, t: &Tables, event: Event) -> Resu
     ensures ok { OnOk result (take_event t.now event (state_of x.old) ≡ state_of x.new) }
     ensures over { OnOk result (IsOver t.now x.new) }
 {
-    let name = event.name.copy()?;
-    x.running.env.bound = Some(event);
-    let transitions = for_event(alloc, &mut x.running, t, &x.histories, name.bytes())?;
+    let event = Shared::new(alloc, event)?;
+    x.running.env.bound = Some(event.copy()?);
+    let name = event.get().name.bytes();
+    let transitions = for_event(alloc, &mut x.running, t, &x.histories, name)?;
     microstep(
         alloc,
         &mut x.running,

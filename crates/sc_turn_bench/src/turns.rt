@@ -5,7 +5,7 @@ ghost use Rattle.sc_law.specs.Runs.{fresh_state};
 ghost use Rattle.sc_types.specs.declared.session.Phase.TheVariants as phase;
 ghost use Rattle.sc_turn_bench.specs.Sessions.{Waits, WaitsFor};
 
-use sc_base::{Name, NoMemory, Plain, Queue, Sequence, SharedBytes, Word};
+use sc_base::{Name, NoMemory, Plain, Queue, Sequence, Shared, SharedBytes, Word};
 use sc_law::Engine;
 use sc_turn::{Compiled, Plan};
 use sc_types::{Cue, Data, Event, Kind, Phase, SessionState};
@@ -18,7 +18,7 @@ fn event_cue(alloc: Global, name: &[u8]) -> Option<Cue>
     ensures { IfSome result WaitsFor }
 {
     let name = Name::of(alloc, name).ok()?;
-    Some(Cue::External(Event {
+    let event = Event {
         number: 1,
         name,
         kind: Kind::External,
@@ -27,7 +27,8 @@ fn event_cue(alloc: Global, name: &[u8]) -> Option<Cue>
         origintype: SharedBytes::empty(),
         invokeid: SharedBytes::empty(),
         payload: Data::Absent,
-    }))
+    };
+    Some(Cue::External(Shared::new(alloc, event).ok()?))
 }
 
 fn fresh_state(alloc: Global, name: &Word) -> Result<SessionState, NoMemory>

@@ -38,7 +38,7 @@ pub use limits::{
 };
 pub use sc_base::{
     Boxed, Bytes, Failure, Name, NoMemory, PLAIN_NAME_LIMIT, Plain, PlainName, Queue, Sequence,
-    SharedBytes, TEXT_LIMIT, TextWriter, Unfit, Word, is_plain_name, is_text, is_word,
+    Shared, SharedBytes, TEXT_LIMIT, TextWriter, Unfit, Word, is_plain_name, is_text, is_word,
 };
 pub use session::{Cue, CueName, Histories, How, Invoked, Phase, SessionState, Values};
 pub use state_kind::StateKind;

@@ -3,8 +3,8 @@ ghost use Rattle.std.proofs.Common.{rules};
 
 use crate::event::{Data, Event};
 use crate::value::{PairList, Value};
-use sc_base::{NoMemory, Plain, PlainName, Queue, Sequence, SharedBytes, Word};
-use std::alloc::AllocError;
+use sc_base::{Boxed, NoMemory, Plain, PlainName, Queue, Sequence, Shared, SharedBytes, Word};
+use std::alloc::{AllocError, Global};
 
 /// How a session ended.
 #[derive(Clone, Debug, Drop, PartialEq, Eq)]
@@ -57,7 +57,7 @@ pub struct SessionState {
     pub internal: Queue<Event>,
     pub invokes: Sequence<Invoked>,
     /// The event that `_event` names.
-    pub bound: Option<Event>,
+    pub bound: Option<Shared<Event>>,
     /// What the session was started with.
     pub params: PairList,
     /// How many ids `send.N` were made.
@@ -76,7 +76,7 @@ pub enum Cue {
     /// The session is to be cancelled.
     Cancel,
     /// The front of the external queue.
-    External(Event),
+    External(Shared<Event>),
 }
 
 /// The name of a cue, as replies give it: an external event by its number.
@@ -114,6 +114,15 @@ impl Clone for SessionState {
 
 impl Plain for SessionState {
     ghost clone_equals = { λ s copy same. same };
+}
+
+impl SessionState {
+    /// A copy in a place of its own, which is moved as cheaply as a number.
+    pub fn boxed(&self, alloc: Global) -> Result<Boxed<SessionState>, NoMemory>
+        ensures { IfOk result (λ c. c ≡ self.now) }
+    {
+        Boxed::new(alloc, copy_state(self)?)
+    }
 }
 
 /// A copy of a state, in three parts: an early exit then has few values to drop.
@@ -166,7 +175,15 @@ fn copy_sets(
 
 fn copy_events(
     state: &SessionState,
-) -> Result<(Queue<Event>, Sequence<Invoked>, Option<Event>, PairList), NoMemory>
+) -> Result<
+    (
+        Queue<Event>,
+        Sequence<Invoked>,
+        Option<Shared<Event>>,
+        PairList,
+    ),
+    NoMemory,
+>
     ensures { IfOk result (λ c. c ≡ (state.now.internal, state.now.invokes, state.now.bound, state.now.params)) }
 {
     Ok((
