@@ -11,13 +11,26 @@ use Rattle.sc_core.specs.Cues.{is_ready, waiting_cue}
 positive : (n : ℕ) → nat_lt 0 (suc n) ≡ true
 positive n = grind (arith, nat_tests)
 
+any_cue : (es : List Event) (flagged : Bool) (z : Event) (zs : List Event) → is_some (waiting_cue es flagged (z ∷ zs)) ≡ true
+any_cue (e ∷ es) flagged z zs = refl
+any_cue [] true z zs = refl
+any_cue [] false z zs = refl
+
+any_flagged : (es : List Event) → is_some (waiting_cue es true []) ≡ true
+any_flagged (e ∷ es) = refl
+any_flagged [] = refl
+
+any_front : (xs : List Event) (y : Event) (ys : List Event) → is_some (waiting_cue (xs ++ y ∷ ys) false []) ≡ true
+any_front (x ∷ xs) y ys = refl
+any_front [] y ys = refl
+
 -- something waits where one of the parts of the internal queue, the flag or the external queue says so
 pub waits_in : (xs ys : List Event) (flagged : Bool) (zs : List Event)
-    → is_some (waiting_cue (xs ++ ys) flagged zs) ≡ (nat_lt 0 (length xs) || nat_lt 0 (length ys) || flagged || nat_lt 0 (length zs))
-waits_in (x ∷ xs) ys f zs = rw (positive (length xs)) refl
-waits_in [] (y ∷ ys) f zs = rw (positive (length ys)) refl
-waits_in [] [] true zs = refl
-waits_in [] [] false (z ∷ zs) = rw (positive (length zs)) refl
+    → is_some (waiting_cue (xs ++ ys) flagged zs) ≡ (nat_lt 0 (length zs) || flagged || nat_lt 0 (length ys) || nat_lt 0 (length xs))
+waits_in xs ys f (z ∷ zs) = rw (positive (length zs)) (any_cue (xs ++ ys) f z zs)
+waits_in xs ys true [] = any_flagged (xs ++ ys)
+waits_in xs (y ∷ ys) false [] = rw (positive (length ys)) (any_front xs y ys)
+waits_in (x ∷ xs) [] false [] = rw (positive (length xs)) refl
 waits_in [] [] false [] = refl
 
 -- the first index at which the test passes after f

@@ -1,20 +1,23 @@
 -- What is prepared of an invocation is what the host machine does.
 use Rattle.std.proofs.Common.{◌≡◌, ℕ, ◌+◌, ◌<◌, ◌++◌, ◌&&◌, true, false, nat_lt, not, is_some, if◌then◌else◌, Option, Some, None, option_map, List, [], ◌∷◌, length, map, slice_get, slice_set, refl, arith, sym, ap, subst, ◌∙◌, Bool, suc, zero}
 use Rattle.std.specs.Option.{option_map_or}
+use Rattle.std.specs.Str.{bytes_eq}
 use Rattle.std.proofs.lemmas.Option.{same_Some, slice_get_within}
+use Rattle.std.proofs.lemmas.Slice.Eq.{bytes_eq-Decides}
 use Rattle.sc_types.specs.declared.event.Event.{Event}
 use Rattle.sc_types.specs.declared.history.Delivery.TheVariants.{Born, Flagged, Unborn}
 use Rattle.sc_types.specs.declared.host.HostImage.{HostImage}
 use Rattle.sc_types.specs.declared.host.SessionImage.{SessionImage}
 use Rattle.sc_types.specs.declared.limits.TheConstants.{INVOKE_DEPTH_LIMIT}
+use Rattle.sc_types.specs.declared.session.SessionState.{SessionState}
 use Rattle.sc_types.specs.declared.value.Value.{Value}
 use Rattle.sc_law.specs.Runs.{fresh_state}
 use Rattle.sc_core.specs.Births.{born_sight, sight, sights}
 use Rattle.sc_core.specs.Bodies.{session_image}
 use Rattle.sc_core.specs.Changes.{drop_invoke, tell, with_started}
-use Rattle.sc_core.specs.Deliveries.{born, cancel_child, child_session, cut_off, invoke, may_bear, unborn, unborn_event, without_invoke}
-use Rattle.sc_core.specs.Drafts.{Drafts, Follows, IsDraft, Stepper, own, so_far}
-use Rattle.sc_core.specs.Hosts.{has_chart, is_running, session_place, with_session}
+use Rattle.sc_core.specs.Deliveries.{born, cancel_child, child_session, cut_off, invoke, live_child, may_bear, unborn, unborn_event, while_live, without_invoke}
+use Rattle.sc_core.specs.Drafts.{Drafts, Follows, IsDraft, IsSender, Stepper, own, so_far}
+use Rattle.sc_core.specs.Hosts.{has_chart, is_running, session_named, session_place, with_session}
 use Rattle.sc_core.specs.Installing.{IsChildAt}
 use Rattle.sc_core.specs.declared.change.Change.{Change}
 use Rattle.sc_core.specs.declared.change.Change.TheVariants.{Bear, CutOff, DropInvoke, Tell}
@@ -23,7 +26,7 @@ use Rattle.sc_core.specs.declared.draft.Placed.{Placed}
 use Rattle.sc_core.specs.declared.session.Session.{Session}
 use Rattle.sc_core.proofs.AimLemmas.{set_here, set_other}
 use Rattle.sc_core.proofs.BirthLemmas.{grown_long, grown_more, sights_set}
-use Rattle.sc_core.proofs.DraftLemmas.{Stays, get_first, one_drafted, one_more, set_stays, then_follows}
+use Rattle.sc_core.proofs.DraftLemmas.{Stays, get_first, one_drafted, one_more, sender_there, set_stays, then_follows}
 
 map_push : {X Y : Type 0} (f : X → Y) (xs : List X) (y : X) → map f (xs ++ y ∷ []) ≡ map f xs ++ f y ∷ []
 map_push f [] y = refl
@@ -227,6 +230,37 @@ pub invoke_unborn : (h : HostImage) (place : ℕ) (t : SessionImage) (id child c
     → may_bear h t child chart ≡ false → invoke h place t id child chart pairs ≡ unborn h place t id child
 invoke_unborn h place t id child chart pairs may =
     ap (λ b. if b then born h t id child chart pairs else unborn h place t id child) may
+
+-- ---- a session is no child of its own
+
+pub no_own_child : {P : Type 0} (before : HostImage) (place : ℕ) (after : SessionState) (g : HostImage) (d : Draft P)
+    (t : SessionImage) (child : List ℕ) → IsSender before place after g d t → bytes_eq child after.session ≡ true
+    → live_child (so_far g d) t child ≡ None
+no_own_child before place after g d t child sender own =
+    let h = so_far g d in
+    let named = (sender_there before place after g d t sender).is.session in
+    ap (λ b. if b then None else while_live (session_named h child)) (ap (bytes_eq child) named ∙ own)
+
+pub other_child : {P : Type 0} (before : HostImage) (place : ℕ) (after : SessionState) (g : HostImage) (d : Draft P)
+    (t : SessionImage) (child : List ℕ) → IsSender before place after g d t → bytes_eq child after.session ≡ false
+    → live_child (so_far g d) t child ≡ while_live (session_named (so_far g d) child)
+other_child before place after g d t child sender other =
+    let h = so_far g d in
+    let named = (sender_there before place after g d t sender).is.session in
+    ap (λ b. if b then None else while_live (session_named h child)) (ap (bytes_eq child) named ∙ other)
+
+-- a session of another name stands at another place
+pub other_place : {P : Type 0} (before : HostImage) (place : ℕ) (after : SessionState) (g : HostImage) (d : Draft P)
+    (t : SessionImage) (child : List ℕ) (found : ℕ) (r : SessionImage) → IsSender before place after g d t
+    → bytes_eq child after.session ≡ false → slice_get (so_far g d).sessions found ≡ Some r → r.state.session ≡ child
+    → found ≡ place → ⊥
+other_place before place after g d t child found r sender other there is same =
+    let named = (sender_there before place after g d t sender).is.session in
+    let one : t ≡ r =
+    same_Some t r (sym sender.there ∙ ap (slice_get (so_far g d).sessions) (sym same) ∙ there) in
+    let names : child ≡ after.session = sym is ∙ ap (λ (s : SessionImage). s.state.session) (sym one) ∙ named in
+    let both : true ≡ false = sym ((bytes_eq-Decides child after.session).1 names) ∙ other in
+    absurd cc
 
 -- ---- a child is cancelled
 

@@ -1,3 +1,4 @@
+pub mod AcceptedLemmas
 pub mod AimLemmas
 pub mod AppendLemmas
 pub mod BirthLemmas
@@ -6,6 +7,7 @@ pub mod ChangeLemmas
 pub mod CountLemmas
 pub mod DraftLemmas
 pub mod EndLemmas
+pub mod EventNames
 pub mod FamilyLemmas
 pub mod FitLemmas
 pub mod FoundLemmas

@@ -2,6 +2,7 @@
 use Rattle.std.proofs.Common.{is_some, map, length-append, ◌≡◌, ℕ, ◌+◌, ◌==◌, ◌&&◌, Bool, true, false, Option, Some, None, if◌then◌else◌, List, [], ◌∷◌, ◌++◌, slice_get, slice_set, refl, sym, ap, subst, ◌∙◌, nat_lt, ◌-◌, ◌^◌, filter, not, ◌≤◌, All, get_or, length, arith}
 use Rattle.std.specs.List.{flat_map}
 use Rattle.std.specs.Option.{option_map_or}
+use Rattle.std.specs.Str.{bytes_eq}
 use Rattle.std.proofs.lemmas.List.Elements.{All-map, All-push, All-set}
 use Rattle.sc_types.specs.Sends.{with_send}
 use Rattle.sc_types.specs.declared.effect.Effect.{Effect}
@@ -184,7 +185,10 @@ effect_moves g place s (Send e who delay) there = by (delay == 0) where
   by false = delay_moves g s who e delay
 effect_moves g place s (CancelSend id) there = undo_moves g s id
 effect_moves g place s (Invoke id child chart pairs) there = invoke_moves g place s id child chart pairs there
-effect_moves g place s (CancelChild child) there = cancel_moves g child (while_live (session_named g child)) refl
+effect_moves g place s (CancelChild child) there = by (bytes_eq child s.state.session) where
+  by : (own : Bool) → IsMove g (cancel_child g child (if own then None else while_live (session_named g child)))
+  by true = still refl refl refl refl refl
+  by false = cancel_moves g child (while_live (session_named g child)) refl
 effect_moves g place s (Forward child e) there = hand_moves g child e (while_live (session_named g child)) refl
 
 -- carrying out an effect is a move

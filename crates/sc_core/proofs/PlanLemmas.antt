@@ -28,6 +28,7 @@ use Rattle.sc_core.proofs.SetLemmas.{image_at}
 
 -- an installed chart with its plan, which is that of the legal chart of the name
 pub record IsPlanOf {P : Type 0} (chart_of : P → Chart) (h : Body P) (name : List ℕ) (c : InstalledChart P) : Type 0 where
+  pub chart : arc_value c.chart ≡ chart_named (image h) name
   pub plan : chart_of (arc_value c.plan) ≡ chart_named (image h) name
   pub legal : legal_fault (chart_of (arc_value c.plan)) ≡ None
 
@@ -54,17 +55,18 @@ plan_of_name {P = P} chart_of h name plans has =
         let same : c.image ≡ x = same_Some c.image x is in
         let planned : IsPlanned chart_of c = subst (IsPlanned chart_of) (get_or_from_slice_get items p c c at)
         (plans p c (slice_get_within items p c at)) in
-        let spelled : legal_chart_of x.text ≡ Ok (chart_of (arc_value c.plan)) =
-        ap (λ (i : ChartImage). legal_chart_of i.text) (sym same) ∙ planned in
-        let named : chart_named (image h) name ≡ chart_of (arc_value c.plan) =
+        let spelled : legal_chart_of x.text ≡ Ok (arc_value c.chart) =
+        ap (λ (i : ChartImage). legal_chart_of i.text) (sym same) ∙ planned.chart in
+        let named : chart_named (image h) name ≡ arc_value c.chart =
         ap (λ o. unwrap_or (option_and_then (chart_at (image h)) o) bare_chart) placed
         ∙ ap (λ o. unwrap_or (option_and_then (λ (i : ChartImage). result_ok (legal_chart_of i.text)) o) bare_chart) there
         ∙ ap (λ r. unwrap_or (result_ok r) bare_chart) spelled in (
           c,
           ap (λ o. option_and_then (slice_get items) o) placed ∙ at,
           record {
-            plan = sym named;
-            legal = legal_of (chart_text expr_of x.text) (chart_of (arc_value c.plan)) spelled;
+            chart = sym named;
+            plan = planned.plan ∙ sym named;
+            legal = legal_of (chart_text expr_of x.text) (chart_of (arc_value c.plan)) (spelled ∙ ap Ok (sym planned.plan));
           },
         )
 
@@ -170,6 +172,16 @@ pub plan_seen : {P : Type 0} (chart_of : P → Chart) (h : Body P) (place : ℕ)
     → chart_of (arc_value c.plan) ≡ chart_named (image h) x.state.chart
 plan_seen chart_of h place s c x held at is there =
     (plan_found chart_of h place s c held at is).plan
+    ∙ ap (λ (y : SessionImage). chart_named (image h) y.state.chart) (only_there h.sessions.items place s x at there)
+
+-- and that chart itself
+pub chart_seen : {P : Type 0} (chart_of : P → Chart) (h : Body P) (place : ℕ) (s : Session) (c : InstalledChart P)
+    (x : SessionImage) → IsHeld chart_of h → slice_get h.sessions.items place ≡ Some s
+    → Some c ≡ option_and_then (slice_get h.charts.items) (chart_place (image h) s.state.chart)
+    → slice_get (image h).sessions place ≡ Some x
+    → arc_value c.chart ≡ chart_named (image h) x.state.chart
+chart_seen chart_of h place s c x held at is there =
+    (plan_found chart_of h place s c held at is).chart
     ∙ ap (λ (y : SessionImage). chart_named (image h) y.state.chart) (only_there h.sessions.items place s x at there)
 
 -- a place below their number is that of a session

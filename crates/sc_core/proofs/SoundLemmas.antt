@@ -21,7 +21,7 @@ use Rattle.sc_types.specs.declared.session.Phase.TheVariants as phase
 use Rattle.sc_law.specs.Fitting.{Fits}
 use Rattle.sc_law.specs.Turn.{turn}
 use Rattle.sc_core.specs.Commands.{Answer, advance, answer, fresh_session, posted_event, put_in, step_turn}
-use Rattle.sc_core.specs.Deliveries.{born, cancel_child, deliver, deliver_all, deliver_of, delay_send, due_time, fire, fire_all, hand_to, hears, may_bear, unborn, is_cut_from, is_due, left_as, next_send, queue, receiver_name, send_found, send_named, send_now, undo, unreachable, while_live}
+use Rattle.sc_core.specs.Deliveries.{born, cancel_child, deliver, deliver_all, deliver_of, delay_send, due_time, fire, fire_all, hand_to, hears, may_bear, unborn, is_cut_from, is_due, left_as, live_child, next_send, queue, receiver_name, send_found, send_named, send_now, undo, unreachable, while_live}
 use Rattle.sc_core.specs.Drafts.{AreNumbered}
 use Rattle.sc_core.specs.Endings.{cleared, end_at, end_event, end_in, one_delivery, tell_end, tell_invoker, with_children_left}
 use Rattle.sc_core.specs.FittingHosts.{FitsChart}
@@ -120,7 +120,7 @@ effect_steady g place s (Invoke id child chart pairs) = by (may_bear g s child c
   by : (may : Bool) → IsSteady g (if may then born g s id child chart pairs else unborn g place s id child).host
   by true = record { clock = refl; sends = λ all. all }
   by false = record { clock = refl; sends = λ all. all }
-effect_steady g place s (CancelChild child) = by (while_live (session_named g child)) where
+effect_steady g place s (CancelChild child) = by (live_child g s child) where
   by : (o : Option (ℕ × SessionImage)) → IsSteady g (cancel_child g child o).host
   by None = stays g
   by (Some found) = record { clock = refl; sends = λ all. all }

@@ -151,13 +151,13 @@ abbrev pub step_changes : {P : Type 0} → ℕ → Cue → SessionState → List
 step_changes place cue after more = put_changes place cue after ++ (more ++ Count ∷ [])
 
 -- the changes of a turn, which are made once its state is put in
-pub record IsWhole {P : Type 0} (g b h : HostImage) (more : List (Change P)) : Type 0 where
+pub record IsWhole {P : Type 0} (g b h : HostImage) (all : ℕ) (more : List (Change P)) : Type 0 where
   pub can : CanApplyAll b more
   pub targets : HaveTargets (length g.sessions) more
   pub none : InstallNone more
   pub host : installed more b ≡ h
   pub count : ℕ
-  pub many : length more + 3 ≤ count
+  pub many : all ≤ count
   pub roomy : AllByRecursion (IsRoomy {P = P} (length g.sessions) count (new_rooms more)) more
 
 -- they install no chart
@@ -233,25 +233,32 @@ less_all n count many rooms others [] less same all = tt
 less_all n count many rooms others (c ∷ cs) less same all =
     (less_roomy n count rooms others c many less same all.0, less_all n count many rooms others cs less same all.1)
 
+-- three changes beside those of the effects and of the end, at most
+pub step_long : {P : Type 0} (place : ℕ) (cue : Cue) (after : SessionState) (old more : List (Change P)) → AreAlike old more
+    → length (step_changes place cue after more) ≤ length old + 3
+step_long {P = P} place cue after old more alike =
+    let long = length-append more (Count ∷ []) in
+    omega (arith, put_many P place cue after (more ++ Count ∷ []), long, alike_count old more alike)
+
 step_roomy : {P : Type 0} (g b h : HostImage) (place : ℕ) (cue : Cue) (after : SessionState) (more : List (Change P))
-    → IsWhole g b h more → AreRoomy (length g.sessions) (step_changes place cue after more)
+    → IsWhole g b h (length (step_changes place cue after more)) more
+    → AreRoomy (length g.sessions) (step_changes place cue after more)
 step_roomy {P = P} g b h place cue after more whole =
     let all = step_changes place cue after more in
     let n = length g.sessions in
     let rooms : new_rooms all ≡ new_rooms more = put_rooms P place cue after (more ++ Count ∷ []) ∙ count_rooms more in
-    let long = length-append more (Count ∷ []) in
-    let few : length all ≤ whole.count = omega (arith, whole.many, put_many P place cue after (more ++ Count ∷ []), long) in
     all_both (IsRoomy {P = P} n (length all) (new_rooms all)) (put_changes place cue after) (more ++ Count ∷ [])
     (put_roomy P n (length all) (new_rooms all) place cue after)
     (all_both (IsRoomy {P = P} n (length all) (new_rooms all)) more (Count ∷ [])
-    (less_all (length all) whole.count n (new_rooms more) (new_rooms all) more few rooms whole.roomy) (tt, tt))
+    (less_all (length all) whole.count n (new_rooms more) (new_rooms all) more whole.many rooms whole.roomy) (tt, tt))
 
 -- they make the step
 pub step_prepared : {P : Type 0} (g : HostImage) (place : ℕ) (s : SessionImage) (cue : Cue) (t : TurnResult)
     (more : List (Change P)) (ended : DeliveredAll) (p : Prepared P) → slice_get g.sessions place ≡ Some s
     → t.after.session ≡ s.state.session → g.commands + 1 < 2 ^ 64
     → ended ≡ end_at (deliver_all (with_session g place (put_in s cue t)) place t.effects).host place
-    → ended.host.commands ≡ g.commands → IsWhole g (with_session g place (put_in s cue t)) ended.host more
+    → ended.host.commands ≡ g.commands
+    → IsWhole g (with_session g place (put_in s cue t)) ended.host (length (step_changes place cue t.after more)) more
     → p.changes ≡ step_changes place cue t.after more → p.reply ≡ (step_turn g place s cue t).reply → p.logs ≡ t.logs
     → p.sent ≡ (deliver_all (with_session g place (put_in s cue t)) place t.effects).sent ++ ended.sent
     → Prepares (step_turn g place s cue t) g p
@@ -377,16 +384,16 @@ turn_drafted before place s cue d r t is there numbers drafted =
 
 -- the changes of the turn, once they have room
 pub turn_whole : {P : Type 0} (before : HostImage) (place : ℕ) (s : SessionImage) (cue : Cue) (t : TurnResult) (d e : Draft P)
-    (more : List (Change P)) (count : ℕ) → slice_get before.sessions place ≡ Some s
+    (more : List (Change P)) (all count : ℕ) → slice_get before.sessions place ≡ Some s
     → DraftsAll (stepper t.after.session place) (with_session before place (put_in s cue t)) d
     (deliver_all (with_session before place (put_in s cue t)) place t.effects)
     → DraftsEnd (so_far (with_session before place (put_in s cue t)) d) place d e → AreAlike e.changes more
-    → length e.changes + 3 ≤ count
+    → all ≤ count
     → ((g : HostImage) → length g.sessions ≡ length before.sessions → CanApplyAll g e.changes
     → AllByRecursion (IsRoomy {P = P} (length before.sessions) count (new_rooms more)) more)
     → IsWhole before (with_session before place (put_in s cue t))
-    (end_at (deliver_all (with_session before place (put_in s cue t)) place t.effects).host place).host more
-turn_whole {P = P} before place s cue t d e more count there drafted ends alike many roomy =
+    (end_at (deliver_all (with_session before place (put_in s cue t)) place t.effects).host place).host all more
+turn_whole {P = P} before place s cue t d e more total count there drafted ends alike many roomy =
     let b = with_session before place (put_in s cue t) in
     let h = so_far b d in
     let all = deliver_all b place t.effects in
@@ -411,7 +418,7 @@ turn_whole {P = P} before place s cue t d e more count there drafted ends alike 
       none = λ chart_of. planned_alike chart_of e.changes more alike (none chart_of);
       host = same.host ∙ reaches;
       count = count;
-      many = omega (arith, many, alike_count e.changes more alike);
+      many = many;
       roomy = roomy b long can;
     }
 

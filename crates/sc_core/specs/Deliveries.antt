@@ -178,6 +178,10 @@ invoke g place s id child chart pairs =
 abbrev pub cut_off : SessionImage → SessionImage
 cut_off s = record s { flagged = true; invoker = option_map (λ (i : InvokerImage). record i { cut = true }) s.invoker }
 
+-- the session of a name, while it lives; a session is no child of its own
+abbrev pub live_child : HostImage → SessionImage → List ℕ → Option (ℕ × SessionImage)
+live_child g s name = if bytes_eq name s.state.session then None else while_live (session_named g name)
+
 -- 6.4.3: a child session that lives is cancelled
 abbrev pub cancel_child : HostImage → List ℕ → Option (ℕ × SessionImage) → Delivered
 cancel_child g child None = left_as g Nothing
@@ -194,7 +198,7 @@ abbrev pub deliver_of : HostImage → ℕ → SessionImage → Effect → Delive
 deliver_of g place s (Send e who delay) = if delay == 0 then send_now g place s who e else delay_send g s who e delay
 deliver_of g place s (CancelSend id) = undo g s id
 deliver_of g place s (Invoke id child chart pairs) = invoke g place s id child chart pairs
-deliver_of g place s (CancelChild child) = cancel_child g child (while_live (session_named g child))
+deliver_of g place s (CancelChild child) = cancel_child g child (live_child g s child)
 deliver_of g place s (Forward child e) = hand_to g child e (while_live (session_named g child))
 
 unfoldable pub deliver : HostImage → ℕ → Effect → Delivered

@@ -1,9 +1,11 @@
 -- What happens at the end of a session (SCXML 6.4 and Appendix D, exitInterpreter). The order, and that a session which was
 -- cancelled tells nobody, is this host's own rule.
-use Rattle.std.specs.Prelude.{ℕ, ◌&&◌, ◌++◌, Bool, false, not, if◌then◌else◌, Option, Some, None, List, [], ◌∷◌, codes, filter, map, slice_get}
+use Rattle.std.specs.Prelude.{ℕ, ◌&&◌, ◌++◌, Bool, false, not, if◌then◌else◌, Option, Some, None, option_map, List, [], ◌∷◌, codes, filter, map, slice_get}
 use Rattle.std.specs.Option.{option_map_or}
 use Rattle.std.specs.Str.{bytes_eq}
+use Rattle.sc_base.specs.Text.{is_name}
 use Rattle.sc_types.specs.Sends.{is_of}
+use Rattle.sc_types.specs.declared.event.Data.{Data}
 use Rattle.sc_types.specs.declared.event.Data.TheVariants.{Absent}
 use Rattle.sc_types.specs.declared.event.Event.{Event}
 use Rattle.sc_types.specs.declared.event.Kind.TheVariants.{External}
@@ -41,17 +43,22 @@ with_children_left g name =
 abbrev pub left_children : HostImage → List ℕ → List Delivery
 left_children g name = map (λ (s : SessionImage). Flagged s.state.session) (filter (is_left_by name) g.sessions)
 
--- 6.4: `done.invoke.ID` with the data of the end
-abbrev pub done_invoke : List ℕ → Event
-done_invoke id = record (platform_event (codes "done.invoke." ++ id) [] Absent) { kind = External; invokeid = id }
+-- the name of an event that a text is, where it is one
+abbrev pub name_in : List ℕ → Option (List ℕ)
+name_in text = if is_name text then Some text else None
+
+-- 6.4: the event of this name with the data of the end
+abbrev pub done_invoke : List ℕ → Data → List ℕ → Event
+done_invoke id payload name = record (platform_event name [] payload) { kind = External; invokeid = id }
 
 -- an invoked session ran away (this host's own rule)
 abbrev pub runaway_event : List ℕ → Event
 runaway_event id = record (platform_event (codes "error.platform.runaway") [] Absent) { invokeid = id }
 
--- what the invoker hears; of a session that was cancelled nothing
+-- what the invoker hears: `done.invoke.ID` after a final state, which is a name for the id of each invoke of a legal
+-- chart; of a session that was cancelled nothing
 abbrev pub end_event : List ℕ → How → Option Event
-end_event id (how.Final payload) = Some (record (done_invoke id) { payload = payload })
+end_event id (how.Final payload) = option_map (done_invoke id payload) (name_in (codes "done.invoke." ++ id))
 end_event id how.Cancelled = None
 end_event id how.Runaway = Some (runaway_event id)
 

@@ -35,9 +35,10 @@ pub record IsSound (g : HostImage) : Type 0 where
   pub events : g.events ≤ g.commands * 2 ^ 64
   pub clock : g.clock ≤ CLOCK_LIMIT
 
--- the plan is that of the legal chart which the text spells
-abbrev pub IsPlanned : {P : Type 0} → (P → Chart) → InstalledChart P → Type 0
-IsPlanned chart_of c = legal_chart_of c.image.text ≡ Ok (chart_of (arc_value c.plan))
+-- the chart is the legal one which the text spells, and the plan is that chart's
+pub record IsPlanned {P : Type 0} (chart_of : P → Chart) (c : InstalledChart P) : Type 0 where
+  pub chart : legal_chart_of c.image.text ≡ Ok (arc_value c.chart)
+  pub plan : chart_of (arc_value c.plan) ≡ arc_value c.chart
 
 abbrev pub ArePlanned : {P : Type 0} → (P → Chart) → List (Change P) → Type 0
 ArePlanned chart_of [] = Unit {0}

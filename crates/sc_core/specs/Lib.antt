@@ -1,7 +1,9 @@
+pub mod Accepted
 pub mod Aims
 pub mod Births
 pub mod Bodies
 pub mod Changes
+pub mod Closing
 pub mod Commands
 pub mod Counting
 pub mod Cues

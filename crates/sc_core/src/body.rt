@@ -6,14 +6,15 @@ use crate::session::Session;
 use sc_base::Word;
 use sc_rooms::{Named, Places};
 use sc_timers::Timers;
-use sc_types::ChartImage;
+use sc_types::{Chart, ChartImage};
 use std::alloc::Global;
 use std::sync::Arc;
 
-/// An installed chart, and its plan.
+/// An installed chart by its name and text, as an element, and its plan.
 #[derive(Drop)]
 pub struct InstalledChart<P> {
     pub(crate) image: ChartImage,
+    pub(crate) chart: Arc<Chart>,
     pub(crate) plan: Arc<P>,
 }
 

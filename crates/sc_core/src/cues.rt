@@ -3,9 +3,10 @@ ghost use Rattle.sc_core.specs.Bodies.{session_image};
 ghost use Rattle.sc_core.specs.Cues.{cue_of, name_of, outer_cue, queued_cue, waiting_cue};
 
 use crate::session::Session;
-use sc_base::{NoMemory, Plain};
+use sc_base::{NoMemory, Plain, Shared};
 use sc_rooms::RoomyQueue;
 use sc_types::{Cue, CueName, Event, Phase};
+use std::alloc::Global;
 
 /// What the next turn of a session begins with.
 pub(crate) fn cue_of(session: &Session) -> Result<Option<Cue>, NoMemory>
@@ -26,17 +27,22 @@ fn waiting_cue(session: &Session) -> Result<Option<Cue>, NoMemory>
     if session.state.internal.front().is_some() || session.failures.front().is_some() {
         return Ok(Some(Cue::Resume));
     }
-    outer_cue(session.flagged, &session.queued)
+    let alloc = session.state.configuration.allocator();
+    outer_cue(alloc, session.flagged, &session.queued)
 }
 
-fn outer_cue(flagged: bool, queued: &RoomyQueue<Event>) -> Result<Option<Cue>, NoMemory>
+fn outer_cue(
+    alloc: Global,
+    flagged: bool,
+    queued: &RoomyQueue<Event>,
+) -> Result<Option<Cue>, NoMemory>
     ensures { IfOk result (λ cue. cue ≡ outer_cue flagged queued.now.items) }
 {
     if flagged {
         return Ok(Some(Cue::Cancel));
     }
     match queued.front() {
-        Some(front) => Ok(Some(Cue::External(front.copy()?))),
+        Some(front) => Ok(Some(Cue::External(Shared::new(alloc, front.copy()?)?))),
         None => Ok(None),
     }
 }
@@ -48,6 +54,6 @@ pub(crate) fn name_of(cue: &Cue) -> CueName
         Cue::Fresh => CueName::Fresh,
         Cue::Resume => CueName::Resume,
         Cue::Cancel => CueName::Cancel,
-        Cue::External(event) => CueName::External(event.number),
+        Cue::External(event) => CueName::External(event.get().number),
     }
 }

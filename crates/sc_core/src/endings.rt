@@ -58,7 +58,7 @@ fn end_event(alloc: Global, invokeid: &SharedBytes, how: &How) -> Result<Option<
     ensures { IfOk result (λ e. e ≡ end_event invokeid.now how.now) }
 {
     match how {
-        How::Final(payload) => Ok(Some(done_invoke(alloc, invokeid, payload)?)),
+        How::Final(payload) => done_invoke(alloc, invokeid, payload),
         How::Cancelled => Ok(None),
         How::Runaway => Ok(Some(runaway_event(alloc, invokeid)?)),
     }

@@ -1,19 +1,40 @@
-ghost use Rattle.std.specs.Prelude.{◌≡◌, ◌++◌, IfOk, codes};
+ghost use Rattle.std.specs.Prelude.{◌≡◌, ◌++◌, true, IfOk, codes};
+ghost use Rattle.sc_base.specs.Text.{is_name};
 ghost use Rattle.sc_core.specs.Deliveries.{unborn_event};
-ghost use Rattle.sc_core.specs.Endings.{done_invoke, runaway_event};
+ghost use Rattle.sc_core.specs.Endings.{end_event, name_in, runaway_event};
 ghost use Rattle.sc_core.specs.Ticking.{failure_of};
 
-use sc_base::{Name, NoMemory, Plain, SharedBytes, TextWriter};
-use sc_types::{Data, Event, Kind};
+use sc_base::{Name, NoMemory, Plain, SharedBytes, TextWriter, Unfit};
+use sc_types::{Data, Event, How, Kind};
 use std::alloc::Global;
+
+/// The name of an event that a text is; `None` where no event can have it.
+#[tactic(auto, using(crate::proofs::EventNames::names))]
+fn name_in(alloc: Global, text: &[u8]) -> Result<Option<Name>, NoMemory>
+    ensures { IfOk result (λ name. name ≡ name_in text.now) }
+{
+    match Name::of(alloc, text) {
+        Ok(name) => Ok(Some(name)),
+        Err(Unfit::Form) => Ok(None),
+        Err(Unfit::NoMemory) => Err(NoMemory),
+    }
+}
+
+/// A text as the name that it is.
+fn name_of(alloc: Global, text: &[u8]) -> Result<Name, NoMemory>
+    requires name { is_name text.now ≡ true }
+    ensures { IfOk result (λ name. name ≡ text.now) }
+{
+    match name_in(alloc, text)? {
+        Some(name) => Ok(name),
+        None => unreachable!(),
+    }
+}
 
 fn error_name(alloc: Global) -> Result<Name, NoMemory>
     ensures { IfOk result (λ name. name ≡ codes "error.communication") }
 {
-    match Name::of(alloc, b"error.communication") {
-        Ok(name) => Ok(name),
-        Err(_) => Err(NoMemory),
-    }
+    name_of(alloc, b"error.communication")
 }
 
 /// What a sender hears of an event that reaches nobody, by the id of the send.
@@ -48,47 +69,43 @@ pub(crate) fn unborn_event(alloc: Global, invokeid: SharedBytes) -> Result<Event
     })
 }
 
-/// `done.invoke.ID`. A text that no event can have as its name is answered as being out of memory; no chart that was read
-/// gives an invocation such an id.
-fn done_name(alloc: Global, invokeid: &SharedBytes) -> Result<Name, NoMemory>
-    ensures { IfOk result (λ name. name ≡ codes "done.invoke." ++ invokeid.now) }
+/// `done.invoke.ID`, where an event can have that name, as it can for each id that a legal chart gives.
+fn done_name(alloc: Global, invokeid: &SharedBytes) -> Result<Option<Name>, NoMemory>
+    ensures { IfOk result (λ name. name ≡ name_in (codes "done.invoke." ++ invokeid.now)) }
 {
     let mut text = TextWriter::new(alloc);
     text.text("done.invoke.")?;
     text.bytes(invokeid.slice())?;
-    match Name::of(alloc, text.slice()) {
-        Ok(name) => Ok(name),
-        Err(_) => Err(NoMemory),
-    }
+    name_in(alloc, text.slice())
 }
 
-/// What an invoker hears of a session that ended by a final state, with the data of the end.
+/// What an invoker hears of a session that ended by a final state, with the data of the end. SCXML 6.4.
 pub(crate) fn done_invoke(
     alloc: Global,
     invokeid: &SharedBytes,
     payload: &Data,
-) -> Result<Event, NoMemory>
-    ensures { IfOk result (λ e. e ≡ record (done_invoke invokeid.now) { payload = payload.now }) }
+) -> Result<Option<Event>, NoMemory>
+    ensures { IfOk result (λ e. e ≡ end_event invokeid.now (How.Final payload.now)) }
 {
-    Ok(Event {
+    let Some(name) = done_name(alloc, invokeid)? else {
+        return Ok(None);
+    };
+    Ok(Some(Event {
         number: 0,
-        name: done_name(alloc, invokeid)?,
+        name,
         kind: Kind::External,
         sendid: SharedBytes::empty(),
         origin: SharedBytes::empty(),
         origintype: SharedBytes::empty(),
         invokeid: invokeid.copy()?,
         payload: payload.copy()?,
-    })
+    }))
 }
 
 fn runaway_name(alloc: Global) -> Result<Name, NoMemory>
     ensures { IfOk result (λ name. name ≡ codes "error.platform.runaway") }
 {
-    match Name::of(alloc, b"error.platform.runaway") {
-        Ok(name) => Ok(name),
-        Err(_) => Err(NoMemory),
-    }
+    name_of(alloc, b"error.platform.runaway")
 }
 
 /// What an invoker hears of a session that ran away.

@@ -1,6 +1,6 @@
 ghost use Rattle.std.specs.Prelude.{ℕ, ◌≡◌, ◌+◌, ◌^◌, ◌<◌, ◌≤◌, [], None, Some, false, true, is_some, IfOk, OnOk, length, option_map, slice_get};
 ghost use Rattle.sc_core.specs.Bodies.{Agrees, image, session_image};
-ghost use Rattle.sc_core.specs.Deliveries.{born, cancel_child, hand_to, invoke, may_bear, unborn, while_live};
+ghost use Rattle.sc_core.specs.Deliveries.{born, cancel_child, hand_to, invoke, live_child, may_bear, unborn, while_live};
 ghost use Rattle.sc_core.specs.Drafts.{Drafts, IsSender, so_far, stepper};
 ghost use Rattle.sc_core.specs.Births.{IsGrown};
 ghost use Rattle.sc_core.specs.Changes.{put_state};
@@ -215,8 +215,7 @@ impl<P: Drop> Body<P> {
         self.draft_birth(alloc, draft, place, after, depth + 1, invocation)
     }
 
-    /// Prepares that a child is cancelled, while it lives. A session that cancels itself is answered as being out of
-    /// memory: none is its own child. SCXML 6.4.3.
+    /// Prepares that a child is cancelled, while it lives. SCXML 6.4.3.
     pub(crate) fn draft_cancel_child(
         &self,
         draft: &mut Draft<P>,
@@ -230,15 +229,16 @@ impl<P: Drop> Body<P> {
         ensures told { IfOk result (λ told. (g : HostImage) (t : SessionImage)
             → IsSender (image self.now) place after.now g draft.old t
             → Drafts (stepper after.now.session place) g draft.old draft.new
-            (cancel_child (so_far g draft.old) child (while_live (session_named (so_far g draft.old) child))) told) }
+            (cancel_child (so_far g draft.old) child (live_child (so_far g draft.old) t child)) told) }
         ensures number { OnOk result (draft.new.events ≤ draft.old.events + 1) }
     {
+        // A session is no child of its own.
+        if child.bytes() == after.session.bytes() {
+            return Ok(Delivery::Nothing);
+        }
         let Some(found) = self.live_place(&draft.births, place, after, &child) else {
             return Ok(Delivery::Nothing);
         };
-        if found == place {
-            return Err(NoMemory);
-        }
         draft.changes.push(Change::CutOff { place: found })?;
         Ok(Delivery::Flagged(child))
     }

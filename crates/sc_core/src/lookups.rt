@@ -10,7 +10,7 @@ use crate::host_state::HostState;
 use crate::plans::chart_at;
 use sc_base::{NoMemory, Word};
 use sc_law::Engine;
-use sc_types::{Cue, SessionState};
+use sc_types::{Chart, Cue, SessionState};
 use std::sync::Arc;
 
 /// What is looked up takes no memory, but for a cue, which has a copy of its event.
@@ -39,6 +39,15 @@ impl<E: Engine> HostState<E> {
             Some(session) => &session.state,
             None => unreachable!(),
         }
+    }
+
+    /// The chart that the session at a place runs.
+    pub fn chart(&self, place: usize) -> &Chart
+        requires within { place < length self.now.image.sessions }
+        ensures { (s : SessionImage) → slice_get self.now.image.sessions place ≡ Some s
+            → result.now ≡ chart_named self.now.image s.state.chart }
+    {
+        &chart_at::<E>(&self.body, place).chart
     }
 
     /// The plan of the chart that the session at a place runs.

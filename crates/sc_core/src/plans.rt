@@ -32,7 +32,9 @@ impl<P: Drop> Body<P> {
 pub(crate) fn chart_at<E: Engine>(body: &Body<E::Plan>, place: usize) -> &InstalledChart<E::Plan>
     requires held { IsHeld E.chart_of body.now }
     requires within { place < length body.now.sessions.items }
-    ensures { (s : SessionImage) → slice_get (image body.now).sessions place ≡ Some s
+    ensures chart { (s : SessionImage) → slice_get (image body.now).sessions place ≡ Some s
+        → arc_value result.now.chart ≡ chart_named (image body.now) s.state.chart }
+    ensures plan { (s : SessionImage) → slice_get (image body.now).sessions place ≡ Some s
         → E.chart_of (arc_value result.now.plan) ≡ chart_named (image body.now) s.state.chart }
 {
     let Some(session) = body.sessions.get(place) else {

@@ -1,4 +1,4 @@
-ghost use Rattle.std.specs.Prelude.{◌≡◌, ◌<◌, ◌^◌, IfOk, OnOk, Some, length, slice_get};
+ghost use Rattle.std.specs.Prelude.{◌≡◌, ◌<◌, ◌≤◌, ◌^◌, IfOk, OnOk, Some, length, slice_get};
 ghost use Rattle.sc_core.specs.Bodies.{Agrees, Keeps, image};
 ghost use Rattle.sc_core.specs.Commands.{answer, step, step_turn};
 ghost use Rattle.sc_core.specs.Cues.{cue_of};
@@ -48,7 +48,7 @@ fn draft_turn<E: Engine>(
     cue: &Cue,
 ) -> Result<Prepared<E::Plan>, NoMemory>
     requires held { IsHeld E.chart_of body.old }
-    requires room { body.old.commands < 2 ^ 48 }
+    requires room { body.old.commands ≤ 2 ^ 48 }
     requires within { place < length body.old.sessions.items }
     requires cue { (s : SessionImage) → slice_get (image body.old).sessions place ≡ Some s → cue_of s ≡ Some cue.now }
     ensures keeps { Keeps body.old body.new }
@@ -75,7 +75,7 @@ fn draft_step<E: Engine>(
     session: &Word,
 ) -> Result<Prepared<E::Plan>, NoMemory>
     requires held { IsHeld E.chart_of body.old }
-    requires room { body.old.commands < 2 ^ 48 }
+    requires room { body.old.commands ≤ 2 ^ 48 }
     ensures keeps { Keeps body.old body.new }
     ensures charts { body.new.charts.items ≡ body.old.charts.items }
     ensures step { IfOk result
@@ -97,7 +97,7 @@ fn draft<E: Engine>(
     command: &Command,
 ) -> Result<Prepared<E::Plan>, NoMemory>
     requires held { IsHeld E.chart_of body.old }
-    requires room { body.old.commands < 2 ^ 48 }
+    requires room { body.old.commands ≤ 2 ^ 48 }
     ensures keeps { Keeps body.old body.new }
     ensures charts { body.new.charts.items ≡ body.old.charts.items }
     ensures answer { IfOk result (Prepares (answer (image body.old) command.now) (image body.old)) }
@@ -122,7 +122,7 @@ impl<E: Engine> HostState<E> {
     /// Prepares what a command does: its answer, and all memory that its changes need. The host machine stays as it is
     /// until `install`, also where memory is wanting.
     pub fn prepare(&mut self, e: &E, command: &Command) -> Result<Prepared<E::Plan>, NoMemory>
-        requires room { self.old.image.commands < 2 ^ 48 }
+        requires room { self.old.image.commands ≤ 2 ^ 48 }
         ensures image { self.new.image ≡ self.old.image }
         ensures answer { IfOk result (Prepares (answer self.old.image command.now) self.old.image) }
         ensures can { IfOk result (λ p. CanInstall E.chart_of self.new p.changes) }

@@ -6,20 +6,21 @@ ghost use Rattle.sc_core.specs.Bodies.{session_image};
 use sc_rooms::RoomyQueue;
 use sc_types::{Event, InvokerImage, Phase, SessionState};
 
-/// A session as the host's body holds it.
+/// A session as the host's body holds it. What a post and a cancel look at stands together: among many sessions, each line
+/// of memory that a command touches is cold.
 #[derive(Debug, Drop)]
 pub struct Session {
-    pub(crate) state: SessionState,
+    pub(crate) invoker: Option<InvokerImage>,
+    pub(crate) depth: u32,
+    /// The places of the sessions that it invoked, in order of start.
+    pub(crate) children: RoomyQueue<usize>,
     /// The back part of the internal queue: what the host adds to it, for which the room is made first.
     pub(crate) failures: RoomyQueue<Event>,
     /// The external queue.
     pub(crate) queued: RoomyQueue<Event>,
     /// Whether the session is to be cancelled.
     pub(crate) flagged: bool,
-    pub(crate) invoker: Option<InvokerImage>,
-    pub(crate) depth: u32,
-    /// The places of the sessions that it invoked, in order of start.
-    pub(crate) children: RoomyQueue<usize>,
+    pub(crate) state: SessionState,
 }
 
 /// Whether a session has a cue.
@@ -50,10 +51,10 @@ pub(crate) fn is_running(phase: &Phase) -> bool
 fn is_waited_for(session: &Session) -> bool
     ensures { session.now.state.phase ≡ Phase.Running → result ≡ is_ready (session_image session.now) }
 {
-    session.state.internal.len() > 0
-        || session.failures.len() > 0
+    session.queued.len() > 0
         || session.flagged
-        || session.queued.len() > 0
+        || session.failures.len() > 0
+        || session.state.internal.len() > 0
 }
 
 /// Replaces a state.

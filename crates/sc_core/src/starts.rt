@@ -1,5 +1,4 @@
 ghost use Rattle.std.specs.Prelude.{◌≡◌, ◌+◌, ◌^◌, ◌<◌, [], Ok, IfOk, false};
-ghost use Rattle.std.specs.Arc.{arc_value};
 ghost use Rattle.sc_core.specs.Bodies.{Agrees, image, session_image};
 ghost use Rattle.sc_core.specs.Commands.{fresh_session, has_slash, install, install_read, start};
 ghost use Rattle.sc_core.specs.Hosts.{has_chart, session_place};
@@ -8,17 +7,15 @@ ghost use Rattle.sc_core.specs.Preparing.{InstallNone, Prepares};
 ghost use Rattle.sc_law.specs.LegalCharts.{legal_chart_of};
 ghost use Rattle.sc_law.specs.Runs.{fresh_state};
 
-use crate::body::{Body, InstalledChart};
+use crate::body::Body;
 use crate::change::Change;
-use crate::charts::{plan_of, read_legal_chart};
+use crate::charts::{installed_chart, read_legal_chart};
 use crate::prepared::Prepared;
 use crate::session::Session;
 use sc_base::{Bytes, NoMemory, Plain, Queue, Sequence, Word};
 use sc_law::Engine;
 use sc_rooms::RoomyQueue;
-use sc_types::{
-    ChartImage, ChartRefusal, NAME_LIMIT, PairList, Phase, Refusal, Reply, SessionState,
-};
+use sc_types::{ChartRefusal, NAME_LIMIT, PairList, Phase, Refusal, Reply, SessionState};
 use sc_valid::LegalChart;
 use std::alloc::Global;
 
@@ -116,26 +113,6 @@ impl<P: Drop> Body<P> {
         };
         Prepared::accepted(alloc, Reply::Started, change)
     }
-}
-
-/// The legal chart that the text spells, with its plan.
-fn installed_chart<E: Engine>(
-    alloc: Global,
-    e: &E,
-    name: &Word,
-    text: &Bytes,
-    chart: LegalChart,
-) -> Result<InstalledChart<E::Plan>, NoMemory>
-    ensures image { IfOk result (λ c. c.image ≡ record { name = name.now; text = text.now }) }
-    ensures plan { IfOk result (λ c. E.chart_of (arc_value c.plan) ≡ chart) }
-{
-    Ok(InstalledChart {
-        image: ChartImage {
-            name: name.copy()?,
-            text: text.copy()?,
-        },
-        plan: plan_of(alloc, e, chart)?,
-    })
 }
 
 fn has_slash(name: &[u8]) -> bool

@@ -39,16 +39,6 @@ fn put_changes<P: Drop>(
     Ok(changes)
 }
 
-/// How many changes a step makes at most, of which so many are those of its effects and of its end.
-fn step_count(count: usize) -> Result<usize, NoMemory>
-    ensures { IfOk result (λ n. n ≡ count + 3) }
-{
-    match count.checked_add(3) {
-        Some(all) => Ok(all),
-        None => Err(NoMemory),
-    }
-}
-
 /// Puts changes behind others.
 fn append<P: Drop>(
     changes: &mut Queue<Change<P>>,
@@ -113,10 +103,12 @@ impl<P: Drop> Body<P> {
         let mut draft = self.draft_effects(alloc, place, &after, effects)?;
         self.draft_end(alloc, &mut draft, place, &after)?;
         let mut changes = put_changes(alloc, place, cue, after)?;
-        let count = step_count(draft.changes.len())?;
+        // A step makes three changes beside those of its effects and of its end, and no more than a usize counts.
+        let count = draft.changes.len().saturating_add(3);
         let more = with_rooms(alloc, draft.changes, self.sessions.len(), count)?;
         append(&mut changes, more)?;
         changes.push(Change::Count)?;
+        let _all = changes.len();
         Ok(Prepared {
             changes,
             reply: Reply::Stepped(name_of(cue)),

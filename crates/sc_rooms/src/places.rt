@@ -72,10 +72,7 @@ impl Places {
     pub fn has(&self, place: usize) -> bool
         ensures { result ≡ contains self.now.places place }
     {
-        match self.next(place) {
-            Some(next) => next == place,
-            None => false,
-        }
+        is_member(&self.places, rank(&self.places, place), place)
     }
 
     /// Makes a place a member.
@@ -84,10 +81,10 @@ impl Places {
         ensures places { self.new.places ≡ with_number place self.old.places }
         ensures spare { self.old.spare - 1 ≤ self.new.spare }
     {
-        if self.has(place) {
+        let rank = rank(&self.places, place);
+        if is_member(&self.places, rank, place) {
             return;
         }
-        let rank = rank(&self.places, place);
         match self.places.insert(rank, place) {
             Ok(()) => {}
             Err(_) => unreachable!(),
@@ -99,8 +96,8 @@ impl Places {
         ensures places { self.new.places ≡ filter (λ member. not (member == place)) self.old.places }
         ensures spare { self.old.spare ≤ self.new.spare }
     {
-        if self.has(place) {
-            let rank = rank(&self.places, place);
+        let rank = rank(&self.places, place);
+        if is_member(&self.places, rank, place) {
             match self.places.remove(rank) {
                 Some(_) => {}
                 None => unreachable!(),
@@ -116,6 +113,18 @@ fn rank(places: &VecDeque<usize>, from: usize) -> usize
     ensures within { result ≤ length places.now.items }
 {
     places.partition_point(|place| *place < from)
+}
+
+// Whether a place, of which so many members are below, is one of them.
+fn is_member(places: &VecDeque<usize>, rank: usize, place: usize) -> bool
+    requires ascending { IsAscending 0 places.now.items }
+    requires rank { rank ≡ position_or_len (λ member. nat_le place member) places.now.items }
+    ensures { result ≡ contains places.now.items place }
+{
+    match member_at(places, rank) {
+        Some(member) => member == place,
+        None => false,
+    }
 }
 
 fn member_at(places: &VecDeque<usize>, rank: usize) -> Option<usize>

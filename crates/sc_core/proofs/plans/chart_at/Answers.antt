@@ -1,5 +1,5 @@
 use Rattle.std.proofs.Common.{sym}
-use Rattle.sc_core.proofs.PlanLemmas.{chart_there, plan_seen}
+use Rattle.sc_core.proofs.PlanLemmas.{chart_seen, chart_there, plan_seen}
 use Rattle.sc_core.proofs.plans.chart_at.Goals as goal
 
 pub unreachable-requires-in_default-chart_named : goal.unreachable-requires-in_default-chart_named
@@ -7,7 +7,12 @@ unreachable-requires-in_default-chart_named g c =
     chart_there g.E.Engine.chart_of c.args.body.now c.args.place c.in-Some.session.now c.requires.held
     (sym c.in-Some.ensures) c.in_default-chart_named.ensures
 
-pub returns : goal.returns
-returns g c = λ s there.
+pub returns-clause-chart : goal.returns-clause-chart
+returns-clause-chart g c = λ s there.
+    chart_seen g.E.Engine.chart_of c.args.body.now c.args.place c.in-Some.session.now c.in-Some-chart_named.chart.now s
+    c.requires.held (sym c.in-Some.ensures) c.in-Some-chart_named.ensures there
+
+pub returns-clause-plan : goal.returns-clause-plan
+returns-clause-plan g c = λ s there.
     plan_seen g.E.Engine.chart_of c.args.body.now c.args.place c.in-Some.session.now c.in-Some-chart_named.chart.now s
     c.requires.held (sym c.in-Some.ensures) c.in-Some-chart_named.ensures there

@@ -1,6 +1,6 @@
 use Rattle.std.proofs.Common.{ap, ◌∙◌}
 use Rattle.sc_types.specs.declared.effect.Effect.TheVariants.{Send}
-use Rattle.sc_core.specs.Deliveries.{cancel_child, delay_send, deliver_of, hand_to, invoke, send_now, undo, while_live}
+use Rattle.sc_core.specs.Deliveries.{cancel_child, delay_send, deliver_of, hand_to, invoke, live_child, send_now, undo, while_live}
 use Rattle.sc_core.specs.Drafts.{so_far, stepper}
 use Rattle.sc_core.specs.Hosts.{session_named}
 use Rattle.sc_core.proofs.DraftLemmas.{drafts_same, each_ok, is_later}
@@ -48,7 +48,7 @@ returns-in-CancelChild-clause-told g c =
     let old = c.args.draft.now in
     let w = c.in-CancelChild in
     each_ok (λ told drafted h t sender. drafts_same (stepper c.args.after.now.session c.args.place) h old _
-    (cancel_child (so_far h old) w.child (while_live (session_named (so_far h old) w.child))) (deliver_of (so_far h old) c.args.place t c.args.effect) told
+    (cancel_child (so_far h old) w.child (live_child (so_far h old) t w.child)) (deliver_of (so_far h old) c.args.place t c.args.effect) told
     (ap (deliver_of (so_far h old) c.args.place t) w.is)
     (drafted h t sender)) c.draft_cancel_child.result c.draft_cancel_child.ensures.told
 

@@ -5,14 +5,14 @@ use Rattle.sc_rooms.proofs.places.Places.remove.Goals as goal
 
 pub invariant_of-self : goal.invariant_of-self
 invariant_of-self c =
-    let found = rw (← c.self.view_is) at c.if-has.ensures in
+    let found = c.if-is_member.ensures in
     let removed = remove-rank c.args.place 0 c.self.inside.places.items c.self.invariant (sym found) in
     rw (c.in-Some.ensures.items, c.rank-rank.ensures.value, removed)
     (ascending-filter _ 0 c.self.inside.places.items c.self.invariant)
 
 pub unreachable-requires : goal.unreachable-requires
 unreachable-requires c =
-    let found = rw (← c.self.view_is) at c.if-has.ensures in
+    let found = c.if-is_member.ensures in
     let items = c.self.inside.places.items in
     let below = rank-within c.args.place items (sym found) in
     let within : c.rank-rank.result < deque_len c.self.inside.places =
@@ -22,11 +22,11 @@ unreachable-requires c =
 
 pub returns-in-Some-clause-places : goal.returns-in-Some-clause-places
 returns-in-Some-clause-places c =
-    let found = rw (← c.self.view_is) at c.if-has.ensures in
+    let found = c.if-is_member.ensures in
     rw (← c.self.view_is, c.in-Some.ensures.items, c.rank-rank.ensures.value)
     (remove-rank c.args.place 0 c.self.inside.places.items c.self.invariant (sym found))
 
-pub returns-else-has-clause-places : goal.returns-else-has-clause-places
-returns-else-has-clause-places c =
-    let missing = rw (← c.self.view_is) at c.if-has.ensures in
+pub returns-else-is_member-clause-places : goal.returns-else-is_member-clause-places
+returns-else-is_member-clause-places c =
+    let missing = c.if-is_member.ensures in
     rw (← c.self.view_is) (sym (without-none c.args.place c.self.inside.places.items (sym missing)))

@@ -1,0 +1,85 @@
+ghost use Rattle.std.specs.Prelude.{◌≡◌, ◌+◌, ◌<◌, ◌≤◌, ◌↔◌, [], ◌∷◌, ◌++◌, slice_get, length, IsTrue, OnOk};
+ghost use Rattle.std.specs.Option.{option_copied};
+
+use sc_base::NoMemory;
+use sc_types::Entry;
+use std::alloc::Global;
+use std::marker::Model;
+
+/// What happened in a run, one entry for each command that was answered. Room for an entry is made before it is
+/// added, so that a command which was acknowledged is never left out for want of memory.
+#[derive(Debug, Drop)]
+pub struct History {
+    entries: Vec<Entry>,
+}
+
+impl Model for History {
+    ghost use Rattle.std.specs.Prelude.{◌-◌, length, vec_capacity};
+    ghost use Rattle.sc_core.specs.Closing.{HistoryOf};
+    ghost use Rattle.sc_types.specs.contracts.history.Entry as entry_type;
+    ghost use Rattle.std.specs.Coded.{codes};
+
+    ghost Value = { HistoryOf };
+
+    ghost coded = { Prim.hlevel (codes, entry_type.the_row.coded) };
+
+    ghost view = { λ h. record { entries = h.entries.items; spare = vec_capacity h.entries - length h.entries.items } };
+}
+
+impl History {
+    /// No entries, and room for none.
+    pub fn new(alloc: Global) -> History
+        ensures { result ≡ record { entries = []; spare = 0 } }
+    {
+        History {
+            entries: Vec::new(alloc),
+        }
+    }
+
+    /// Makes room for one more entry at least. Out of memory, the entries stay as they were.
+    pub fn reserve(&mut self) -> Result<(), NoMemory>
+        ensures entries { self.new.entries ≡ self.old.entries }
+        ensures spare { self.old.spare ≤ self.new.spare }
+        ensures ok { OnOk result (1 ≤ self.new.spare) }
+    {
+        self.entries.reserve(1)?;
+        Ok(())
+    }
+
+    /// Adds an entry behind the others.
+    pub fn push(&mut self, entry: Entry)
+        requires { 0 < self.old.spare }
+        ensures entries { self.new.entries ≡ self.old.entries ++ entry ∷ [] }
+        ensures spare { self.old.spare ≤ self.new.spare + 1 }
+    {
+        match self.entries.push(entry) {
+            Ok(()) => {}
+            Err(_) => unreachable!(),
+        }
+    }
+
+    pub fn len(&self) -> usize
+        ensures { result ≡ length self.now.entries }
+    {
+        self.entries.len()
+    }
+
+    pub fn is_empty(&self) -> bool
+        ensures { IsTrue result ↔ (self.now.entries ≡ []) }
+    {
+        self.entries.is_empty()
+    }
+
+    /// The entry at a place, counted from 0; `None` where there is none.
+    pub fn get(&self, place: usize) -> Option<&Entry>
+        ensures { option_copied result ≡ slice_get self.now.entries place }
+    {
+        self.entries.get(place)
+    }
+
+    pub fn slice(&self) -> &[Entry]
+        ensures { result.now ≡ self.now.entries }
+    {
+        self.entries.as_slice()
+    }
+}
