@@ -87,6 +87,10 @@ impl<D: Disk> Journal<D> {
         ensures later { MatchResult result (λ o. D.faults disk ≤ D.faults o.journal.disk)
             (λ n. D.faults disk ≤ D.faults n.disk) }
 
+        // nothing was written, unless the disk failed
+        ensures stays { MatchResult result (λ o. D.reads o.journal.disk ≡ D.reads disk)
+            (λ n. n.fault ≢ JournalFault.Disk → D.reads n.disk ≡ D.reads disk) }
+
         // a stop leaves what it left before
         ensures images { MatchResult result (λ o. Within (D.may_leave disk) (D.may_leave o.journal.disk))
             (λ n. Within (D.may_leave disk) (D.may_leave n.disk)) }
@@ -139,7 +143,8 @@ impl<D: Disk> Journal<D> {
 
     /// The number of the entry that is added next.
     pub fn next_number(&self) -> u64
-        ensures { result ≡ self.now.next }
+        ensures value { result ≡ self.now.next }
+        ensures limit { result ≤ 2 ^ 48 + 1 }
     {
         self.next
     }
@@ -178,6 +183,7 @@ impl<D: Disk> Journal<D> {
         ensures not_added { OnErr result ((self.new.end ≡ self.old.end) × ((self.new.next ≡ self.old.next)
             × ((self.new.doubt ≡ None) ⊎ (self.new.doubt ≡ Some body.now)))) }
         ensures time { OnOk result (Rose (D.moment self.old.disk) (D.moment self.new.disk)) }
+        ensures elapsed { D.moment self.old.disk ≤ D.moment self.new.disk }
         ensures same { D.identity self.new.disk ≡ D.identity self.old.disk }
 
         // what every stop leaves
@@ -219,6 +225,7 @@ impl<D: Disk> Journal<D> {
         ensures end { self.new.end ≡ self.old.end }
         ensures next { self.new.next ≡ self.old.next }
         ensures cause { HasCause (D.faults self.old.disk) (D.faults self.new.disk) result }
+        ensures elapsed { D.moment self.old.disk ≤ D.moment self.new.disk }
         ensures same { D.identity self.new.disk ≡ D.identity self.old.disk }
 
         // what every stop leaves

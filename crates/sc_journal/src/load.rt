@@ -16,6 +16,7 @@ pub fn read_journal<D: Disk>(alloc: Global, disk: &mut D) -> Result<Vec<u8>, Jou
     requires { (c : DiskOf) → D.may_leave disk.old c → Fits c }
     ensures bytes { D.tells → IfOk result (λ v. v.items ≡ (D.reads disk.old).journal) }
     ensures short { IfOk result (λ v. length v.items ≤ 2 ^ 40) }
+    ensures stays { D.reads disk.new ≡ D.reads disk.old }
     ensures images { Within (D.may_leave disk.old) (D.may_leave disk.new) }
     ensures passes { Passes D.moment D.may_have_left disk.old disk.new (D.may_leave disk.old) }
     ensures disk { result ≡ Err JournalFault.Disk → Rose (D.faults disk.old) (D.faults disk.new) }
@@ -58,6 +59,7 @@ pub fn load<D: Disk>(alloc: Global, disk: &mut D) -> Result<Loaded, JournalFault
         → held (D.reads disk.old).journal ≡ Err at }
     ensures disk { result ≡ Err JournalFault.Disk → Rose (D.faults disk.old) (D.faults disk.new) }
     ensures later { D.faults disk.old ≤ D.faults disk.new }
+    ensures stays { result ≢ Err JournalFault.Disk → D.reads disk.new ≡ D.reads disk.old }
     ensures images { Within (D.may_leave disk.old) (D.may_leave disk.new) }
     ensures passes { Passes D.moment D.may_have_left disk.old disk.new (D.may_leave disk.old) }
     ensures same { D.identity disk.new ≡ D.identity disk.old }
