@@ -1,0 +1,174 @@
+-- How the bodies of a journal become a host, one after another.
+use Rattle.std.proofs.Common.{◌≡◌, ◌≢◌, ◌∙◌, ℕ, suc, ◌+◌, ◌-◌, ◌^◌, ◌<◌, ◌≤◌, true, false, Option, None, Result, Ok, Err, IfOk, IfErr, List, [], ◌∷◌, ◌++◌, length, take, drop, get_or, refl, sym, ap, subst, arith, length-take-le, take-suc, take-append-drop, drop-cons}
+use Rattle.std.specs.Result.{MatchResult}
+use Rattle.sc_book.specs.Images.{Spell, StandsFor}
+use Rattle.sc_book.specs.Openings.{HasOtherFirst, IsBadAt, IsFirstBad, IsOpened, IsRedone, IsReplayed, NamesNoPlace}
+use Rattle.sc_book.proofs.BookLemmas.{begun, length_spell, spell_push}
+use Rattle.sc_book.specs.Books.{IsBook}
+use Rattle.sc_book.specs.Keeping.{book_of}
+use Rattle.sc_book.specs.declared.fault.OpenFault.{OpenFault}
+use Rattle.sc_book.specs.declared.fault.OpenFault.TheVariants.{Disk, Damaged, BadEntry, NoMemory}
+use Rattle.sc_book.specs.declared.log.Log.{Log}
+use Rattle.sc_book.proofs.AnswerLemmas.{same_book}
+use Rattle.sc_codec.proofs.Commands.{one_command}
+use Rattle.sc_codec.specs.Bodies.{Spells}
+use Rattle.sc_core.specs.Accepted.{AreAccepted, after, is_accepted}
+use Rattle.sc_core.specs.Commands.{answer}
+use Rattle.sc_core.specs.Hosts.{empty_host}
+use Rattle.sc_core.specs.HostStates.{HostOf}
+use Rattle.sc_dev.specs.Disks.{DiskOf}
+use Rattle.sc_journal.specs.Journals.{JournalOf, Keeps, StandsAt}
+use Rattle.sc_journal.specs.Texts.{HeadOf, Holds}
+use Rattle.sc_core.proofs.AcceptedLemmas.{accepted_more, accepted_parts, after_append, after_counts}
+use Rattle.sc_types.specs.declared.command.Command.{Command}
+use Rattle.sc_types.specs.declared.host.HostImage.{HostImage}
+
+-- what holds of either answer holds of the result
+pub both_ways : {A E : Type 0} (r : Result A E) (P : A → Type 0) (Q : E → Type 0) → IfOk r P → IfErr r Q → MatchResult r P Q
+both_ways (Ok a) P Q ok err = ok
+both_ways (Err e) P Q ok err = err
+
+pub ok_more : {A E : Type 0} (r : Result A E) (P Q : A → Type 0) → ((a : A) → P a → Q a) → IfOk r P → IfOk r Q
+ok_more (Ok a) P Q more ok = more a ok
+ok_more (Err e) P Q more ok = tt
+
+pub err_more : {A E : Type 0} (r : Result A E) (P Q : E → Type 0) → ((e : E) → P e → Q e) → IfErr r P → IfErr r Q
+err_more (Ok a) P Q more err = tt
+err_more (Err e) P Q more err = more e err
+
+pub err_both : {A E : Type 0} (r : Result A E) (P Q R : E → Type 0) → ((e : E) → P e → Q e → R e) → IfErr r P → IfErr r Q
+    → IfErr r R
+err_both (Ok a) P Q R more one two = tt
+err_both (Err e) P Q R more one two = more e one two
+
+-- the host counts the commands that were made
+pub replayed_counts : (bodies : List (List ℕ)) (h : HostImage) → IsReplayed bodies h → h.commands ≡ length bodies
+replayed_counts bodies h r =
+    let same : h.commands ≡ (after empty_host r.commands).commands = ap (λ (g : HostImage). g.commands) r.host in
+    omega (arith, same, after_counts empty_host r.commands r.accepted, length_spell bodies r.commands r.spell)
+
+-- the next body
+pub redone_more : (bodies : List (List ℕ)) (i : ℕ) (g h : HostImage) (body : List ℕ) → i < length bodies
+    → get_or bodies i [] ≡ body → IsReplayed (take i bodies) g → IsRedone g body h → IsReplayed (take (i + 1) bodies) h
+redone_more bodies i g h body within at r x =
+    let next : take i bodies ++ body ∷ [] ≡ take (i + 1) bodies =
+    ap (λ (b : List ℕ). take i bodies ++ b ∷ []) (sym at) ∙ sym (take-suc bodies i [] within)
+    ∙ (let n : suc i ≡ i + 1 = omega arith in ap (λ k. take k bodies) n) in
+    record {
+      commands = r.commands ++ x.command ∷ [];
+      spell = subst (λ (bs : List (List ℕ)). Spell bs (r.commands ++ x.command ∷ [])) next
+          (spell_push (take i bodies) r.commands body x.command r.spell x.spells);
+      accepted = accepted_more empty_host r.commands (x.command ∷ []) r.accepted
+          (sym (ap (λ (k : HostImage). is_accepted (answer k x.command).reply) r.host) ∙ x.made.accepted, tt);
+      host = x.made.host ∙ ap (λ (k : HostImage). (answer k x.command).host) r.host
+          ∙ sym (after_append empty_host r.commands (x.command ∷ []));
+    }
+
+-- a body that spells no command which the host accepts, behind those that do
+pub first_bad : (bodies : List (List ℕ)) (i n : ℕ) (g : HostImage) (body : List ℕ) → i < length bodies
+    → get_or bodies i [] ≡ body → IsReplayed (take i bodies) g → IsBadAt g body → n ≡ i + 1 → IsFirstBad bodies n
+first_bad bodies i n g body within at r bad number = record {
+  good = take i bodies;
+  commands = r.commands;
+  bad = body;
+  rest = drop (suc i) bodies;
+  whole = sym (take-append-drop i bodies)
+      ∙ ap (λ (bs : List (List ℕ)). take i bodies ++ bs) (drop-cons bodies i [] within
+      ∙ ap (λ (b : List ℕ). b ∷ drop (suc i) bodies) at);
+  spell = r.spell;
+  accepted = r.accepted;
+  is_bad = subst (λ (k : HostImage). IsBadAt k body) r.host bad;
+  number = omega (arith, number, length-take-le i bodies (omega (arith, within)));
+}
+
+-- bodies spell no other commands
+pub same_commands : (bodies : List (List ℕ)) (cs ds : List Command) → Spell bodies cs → Spell bodies ds → ds ≡ cs
+same_commands [] [] [] one other = refl
+same_commands [] [] (d ∷ ds) one other = absurd other
+same_commands [] (c ∷ cs) ds one other = absurd one
+same_commands (b ∷ bs) [] ds one other = absurd one
+same_commands (b ∷ bs) (c ∷ cs) [] one other = absurd other
+same_commands (b ∷ bs) (c ∷ cs) (d ∷ ds) one other =
+    λ k. one_command b c d one.0 other.0 k ∷ same_commands bs cs ds one.1 other.1 k
+
+-- where each body spells a command that the host accepts, none is bad
+never_bad : (good : List (List ℕ)) (ms : List Command) (bad : List ℕ) (rest : List (List ℕ)) (g : HostImage)
+    (cs : List Command) → Spell (good ++ bad ∷ rest) cs → AreAccepted g cs → Spell good ms → IsBadAt (after g ms) bad → ⊥
+never_bad [] [] bad rest g [] spell are some is = absurd spell
+never_bad [] [] bad rest g (c ∷ cs) spell are some is =
+    let both : true ≡ false = sym are.0 ∙ is c spell.0 in absurd (cc)
+never_bad [] (m ∷ ms) bad rest g cs spell are some is = absurd some
+never_bad (b ∷ bs) [] bad rest g cs spell are some is = absurd some
+never_bad (b ∷ bs) (m ∷ ms) bad rest g [] spell are some is = absurd spell
+never_bad (b ∷ bs) (m ∷ ms) bad rest g (c ∷ cs) spell are some is =
+    let same : c ≡ m = one_command b m c some.0 spell.0 in
+    never_bad bs ms bad rest (answer g c).host cs spell.1 are.1 some.1
+    (subst (λ (x : Command). IsBadAt (after (answer g x).host ms) bad) (sym same) is)
+
+pub none_bad : (bodies : List (List ℕ)) (cs : List Command) (n : ℕ) → Spell bodies cs → AreAccepted empty_host cs
+    → IsFirstBad bodies n → ⊥
+none_bad bodies cs n spell are bad = never_bad bad.good bad.commands bad.bad bad.rest empty_host cs
+    (subst (λ (bs : List (List ℕ)). Spell bs cs) bad.whole spell) are bad.spell bad.is_bad
+
+-- a fault that is neither of the two which name a place
+pub no_place : (f : OpenFault) → ((at : ℕ) → f ≢ Damaged at) → ((n : ℕ) → f ≢ BadEntry n) → NamesNoPlace f
+no_place Disk damaged bad = tt
+no_place (Damaged at) damaged bad = absurd (damaged at refl)
+no_place (BadEntry n) damaged bad = absurd (bad n refl)
+no_place NoMemory damaged bad = tt
+
+-- what an image stands for, by the commands from the empty host on
+pub stands_accepted : (d : DiskOf) (n : ℕ) (g : HostImage) → (s : StandsFor d n g) → AreAccepted empty_host s.commands
+stands_accepted d n g s = subst (λ (h : HostImage). AreAccepted h s.commands) s.is_base.empty s.accepted
+
+pub stands_same : (d : DiskOf) (n opened : ℕ) (g h : HostImage) → (s : StandsFor d n g) → IsReplayed s.bodies h
+    → opened ≡ length s.bodies → (opened ≡ n) × (h ≡ g)
+stands_same d n opened g h s r long =
+    let same : s.commands ≡ r.commands = same_commands s.bodies r.commands s.commands r.spell s.spell in
+    let count = length_spell s.bodies s.commands s.spell in
+    let first = s.is_base.first in (
+      omega (arith, long, count, s.count, first),
+      r.host ∙ ap (λ (cs : List Command). after empty_host cs) (sym same)
+          ∙ ap (λ (k : HostImage). after k s.commands) (sym s.is_base.empty) ∙ sym s.host,
+    )
+
+module _ {D : Type 0} (tells : Type 0) (leaves : D → DiskOf → Type 0) (left : D → ℕ → DiskOf → Type 0) (moment : D → ℕ)
+    (only_now : (disk : D) (d : DiskOf) → moment disk < 2 ^ 64 - 1 → left disk (moment disk) d → leaves disk d) where
+  -- a journal that was opened, and the host after its bodies
+  pub begun_as : (bodies read : List (List ℕ)) (h : HostOf) (n s first : ℕ) (log : Log) (j : JournalOf D) → read ≡ bodies
+      → IsReplayed read h.image → n ≡ length bodies → s ≡ moment j.disk → log.history.entries ≡ [] → log.moments.items ≡ []
+      → log.doubts.items ≡ [] → j.doubt ≡ None → first ≡ 1 → j.next ≡ first + length bodies
+      → (tells → Keeps tells leaves j (record { format = 1; first = first }) bodies)
+      → IsOpened tells leaves left moment (book_of h n s log j)
+  begun_as bodies read h n s first log j same replayed long start history moments doubts none one next keeps =
+      let r = subst (λ (bs : List (List ℕ)). IsReplayed bs h.image) same replayed in
+      let count = length_spell bodies r.commands r.spell in
+      let head : tells → Keeps tells leaves j (record { format = 1; first = 1 }) bodies =
+      λ told. subst (λ k. Keeps tells leaves j (record { format = 1; first = k }) bodies) one (keeps told) in
+      record {
+        past = r.commands;
+        book = subst (IsBook tells leaves left moment r.commands) (same_book (record {
+          host = after empty_host r.commands;
+          opened = length r.commands;
+          history = [];
+          start = moment j.disk;
+          moments = [];
+          doubts = [];
+          journal = j;
+        }) (book_of h n s log j) r.host (long ∙ count) history start moments doubts refl)
+            (begun tells leaves left moment only_now r.commands bodies j r.accepted r.spell none
+            (next ∙ ap (λ k. k + length bodies) one) head);
+        history = history;
+        doubts = doubts;
+        start = start;
+      }
+
+  -- the text of a journal whose first number is another than 1
+  pub other_first : (j : JournalOf D) (reads : DiskOf) (head : HeadOf) (bodies : List (List ℕ)) → Keeps tells leaves j head bodies
+      → j.doubt ≡ None → leaves j.disk reads → head.first ≢ 1 → HasOtherFirst reads.journal
+  other_first j reads head bodies keeps none stands other = record {
+    head = head;
+    bodies = bodies;
+    holds = subst (λ (o : Option (List ℕ)). StandsAt o head bodies reads) none (keeps.images reads stands);
+    other = other;
+  }

@@ -1,0 +1,41 @@
+use Rattle.std.proofs.Common.{rules, arith, ◌≡◌, ℕ, ◌+◌, ◌^◌, ◌≤◌, Err, List, length, ap, subst}
+use Rattle.sc_book.specs.Openings.{IsFirstBad}
+use Rattle.sc_book.proofs.OpenLemmas.{begun_as}
+use Rattle.sc_book.proofs.book.Book.begin.Goals as goal
+
+pub invariant_of-result : goal.invariant_of-result
+invariant_of-result g c =
+    let laws = g.met.D.Disk g.world.𝓛 g.world.𝓜 g.world.𝓡 ((λ s x. x), (λ x. x), (λ x. x), λ x. x) in
+    let T = g.D.Disk.tells in
+    let L = g.D.Disk.may_leave in
+    let S = g.D.Disk.may_have_left in
+    let M = g.D.Disk.moment in
+    let bodies = c.args.opened.bodies.items in
+    let r = c.in-Ok.ensures in
+    let long : c.len.result ≡ length bodies = search rules in
+    let first : c.args.opened.first ≡ 1 = r.first in
+    let opened = begun_as T L S M laws.only_now bodies c.as_slice.result.now c.in-Ok.host c.len.result c.moment-start.result
+    c.args.opened.first c.new.result c.args.opened.journal c.as_slice.ensures.value r.ok long c.moment-start.ensures
+    c.new.ensures.history c.new.ensures.moments c.new.ensures.doubts c.requires.settled first c.requires.next c.requires.keeps in
+    record { past = opened.past; is = opened.book }
+
+pub returns-in-Ok-clause-opened : goal.returns-in-Ok-clause-opened
+returns-in-Ok-clause-opened g c =
+    let laws = g.met.D.Disk g.world.𝓛 g.world.𝓜 g.world.𝓡 ((λ s x. x), (λ x. x), (λ x. x), λ x. x) in
+    let T = g.D.Disk.tells in
+    let L = g.D.Disk.may_leave in
+    let S = g.D.Disk.may_have_left in
+    let M = g.D.Disk.moment in
+    let bodies = c.args.opened.bodies.items in
+    let r = c.in-Ok.ensures in
+    let long : c.len.result ≡ length bodies = search rules in
+    let first : c.args.opened.first ≡ 1 = r.first in
+    let opened = begun_as T L S M laws.only_now bodies c.as_slice.result.now c.in-Ok.host c.len.result c.moment-start.result
+    c.args.opened.first c.new.result c.args.opened.journal c.as_slice.ensures.value r.ok long c.moment-start.ensures
+    c.new.ensures.history c.new.ensures.moments c.new.ensures.doubts c.requires.settled first c.requires.next c.requires.keeps in
+    opened
+
+pub returns-clause-bad : goal.returns-clause-bad
+returns-clause-bad g c = λ n is.
+    let bad = c.in-Err.ensures.bad n (ap Err is) in
+    (bad.0, subst (λ (bs : List (List ℕ)). IsFirstBad bs n) c.as_slice.ensures.value bad.1)

@@ -1,0 +1,6 @@
+pub mod Images
+pub mod Books
+pub mod Openings
+pub mod Drafts
+pub mod Keeping
+pub mod Receipts

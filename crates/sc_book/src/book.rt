@@ -1,0 +1,86 @@
+ghost use Rattle.std.specs.Prelude.{◌≡◌, List};
+ghost use Rattle.sc_book.specs.Books.{IsBook};
+ghost use Rattle.sc_types.specs.declared.command.Command.{Command};
+
+use crate::log::Log;
+use sc_core::{Closed, History, HostState};
+use sc_dev::Disk;
+use sc_journal::Journal;
+use sc_law::Engine;
+use std::marker::Model;
+
+/// A host over a journal that was opened, and what happened since. Every accepted command stands in the journal before it
+/// is acknowledged.
+#[derive(Drop)]
+pub struct Book<'e, E: Engine, D: Disk> {
+    pub(crate) engine: &'e E,
+    pub(crate) host: HostState<E>,
+    pub(crate) opened: u64,
+    pub(crate) start: u64,
+    pub(crate) log: Log,
+    pub(crate) journal: Journal<D>,
+}
+
+impl<'e, E: Engine, D: Disk> Model for Book<'e, E, D> {
+    ghost use Rattle.sc_book.specs.Books.{BookOf};
+    ghost use Rattle.sc_types.specs.contracts.host.HostImage as host_type;
+    ghost use Rattle.sc_types.specs.contracts.history.Entry as entry_type;
+    ghost use Rattle.sc_types.specs.contracts.command.Command as command_type;
+    ghost use Rattle.std.specs.Coded.{codes};
+
+    ghost Value = { BookOf D };
+
+    ghost coded = { Prim.hlevel (codes, host_type.the_row.coded, entry_type.the_row.coded, command_type.the_row.coded, D.code) };
+
+    ghost use Rattle.sc_book.specs.Keeping.{book_of, IsSome};
+
+    ghost view = { λ b. book_of b.host b.opened b.start b.log b.journal };
+
+    ghost invariant = { λ b. IsSome D.tells D.may_leave D.may_have_left D.moment
+        (book_of b.host b.opened b.start b.log b.journal) };
+}
+
+impl<'e, E: Engine, D: Disk> Book<'e, E, D> {
+    /// The host as it stands.
+    pub fn host(&self) -> &HostState<E>
+        ensures { result.now.image ≡ self.now.host }
+    {
+        &self.host
+    }
+
+    /// What happened since the opening, refused commands too.
+    pub fn history(&self) -> &History
+        ensures { result.now.entries ≡ self.now.history }
+    {
+        &self.log.history
+    }
+
+    /// How many commands the journal held when it was opened.
+    pub fn opened(&self) -> u64
+        ensures { result ≡ self.now.opened }
+    {
+        self.opened
+    }
+
+    /// Ends the work on the journal, and gives the disk back.
+    pub fn finish(self) -> Closed<E, D>
+        ensures host { result.host.image ≡ self.entry.host }
+        ensures opened { result.opened ≡ self.entry.opened }
+        ensures history { result.history.entries ≡ self.entry.history }
+        ensures disk { result.disk ≡ self.entry.journal.disk }
+    {
+        let Book {
+            host,
+            opened,
+            log,
+            journal,
+            ..
+        } = self;
+        Closed {
+            host,
+            opened,
+            history: log.history,
+            disk: journal.into_disk(),
+        }
+    }
+}

@@ -1,0 +1,93 @@
+ghost use Rattle.std.specs.Prelude.{◌≡◌, ◌+◌, ◌^◌, ◌≤◌, IfOk, OnOk, length};
+ghost use Rattle.sc_book.specs.Drafts.{Confirms, HasBody, IsBodyOf, IsDraft};
+ghost use Rattle.sc_book.specs.Keeping.{HasRoom, IsSameLog};
+ghost use Rattle.sc_core.specs.Accepted.{is_accepted};
+ghost use Rattle.sc_core.specs.Commands.{Answer, answer};
+ghost use Rattle.sc_core.specs.HostStates.{CanInstall};
+
+use crate::log::Log;
+use crate::receipt::Receipt;
+use sc_base::{Bytes, NoMemory, Plain};
+use sc_codec::{encode, is_encodable};
+use sc_core::{HostState, Prepared};
+use sc_law::Engine;
+use sc_types::{Command, Reply};
+use std::alloc::Global;
+
+/// The most bytes that a body has in the journal.
+const BODY_LIMIT: usize = 2_097_152;
+
+/// A command that is answered, with all memory that its entry takes.
+#[derive(Drop)]
+pub(crate) struct Draft<P> {
+    pub(crate) prepared: Prepared<P>,
+    pub(crate) receipt: Receipt,
+    /// The body for the journal, where the host accepts the command.
+    pub(crate) body: Option<Bytes>,
+}
+
+/// The receipt of what was prepared.
+fn receipt_of<P: Drop>(prepared: &Prepared<P>, number: u64) -> Result<Receipt, NoMemory>
+    ensures { IfOk result (λ r. (a : Answer) → prepared.now.reply ≡ a.reply → prepared.now.logs ≡ a.logs
+        → prepared.now.sent ≡ a.sent → Confirms number a r) }
+{
+    Ok(Receipt {
+        number,
+        reply: prepared.reply.copy()?,
+        logs: prepared.logs.copy()?,
+        sent: prepared.sent.copy()?,
+    })
+}
+
+/// The body of a command. No command that the host accepts is too long for one: the host's limits on names and pairs are
+/// far below those of the journal.
+fn body_of(alloc: Global, command: &Command) -> Result<Bytes, NoMemory>
+    ensures { IfOk result (IsBodyOf command.now) }
+{
+    if !is_encodable(command) {
+        return Err(NoMemory);
+    }
+    let body = encode(alloc, command)?;
+    if body.len() > BODY_LIMIT {
+        return Err(NoMemory);
+    }
+    Ok(body)
+}
+
+/// The body of a command with this reply: none where it is refused.
+fn journaled(alloc: Global, command: &Command, reply: &Reply) -> Result<Option<Bytes>, NoMemory>
+    ensures { IfOk result (HasBody (is_accepted reply.now) command.now) }
+{
+    match reply {
+        Reply::Refused(_) => Ok(None),
+        _ => Ok(Some(body_of(alloc, command)?)),
+    }
+}
+
+/// Answers a command, and makes all memory of its entry. The host and the log stay as they are.
+pub(crate) fn draft_entry<E: Engine>(
+    alloc: Global,
+    engine: &E,
+    host: &mut HostState<E>,
+    log: &mut Log,
+    command: &Command,
+) -> Result<Draft<E::Plan>, NoMemory>
+    requires room { host.old.image.commands ≤ 2 ^ 48 }
+    ensures image { host.new.image ≡ host.old.image }
+    ensures log { IsSameLog log.old log.new }
+    ensures room { OnOk result (HasRoom log.new) }
+    ensures draft { IfOk result (IsDraft host.old.image (answer host.old.image command.now)
+        (length log.old.history.entries + 1) command.now) }
+    ensures can { IfOk result (λ d. CanInstall E.chart_of host.new d.prepared.changes) }
+{
+    log.reserve()?;
+    let prepared = host.prepare(engine, command)?;
+    let number = (log.history.len() as u64).checked_add(1).ok_or(NoMemory)?;
+    let receipt = receipt_of(&prepared, number)?;
+    let body = journaled(alloc, command, &prepared.reply)?;
+    Ok(Draft {
+        prepared,
+        receipt,
+        body,
+    })
+}
