@@ -1,10 +1,13 @@
-//! The program: it makes the real streams, hands them to [`sc_top::top`] with the words of the command line,
-//! and ends with the status that comes back.
+//! The program: it makes the real streams and the disk over files, hands them to [`sc_top::top`] with the words of the
+//! command line, and ends with the status that comes back.
 #![tactic(auto)]
 
 mod counted;
+mod file_disk;
+mod parts;
 
 use counted::Counted;
+use file_disk::FileDisk;
 use sc_top::Status;
 use sc_types::NoMemory;
 use std::process::ExitCode;
@@ -16,7 +19,15 @@ fn main(rt: HostRuntime) -> ExitCode {
     };
     let mut input = Counted::new(rt.stdin());
     let mut output = Counted::new(rt.stdout());
-    ExitCode::from(sc_top::top(rt.alloc(), words.as_slice(), &mut input, &mut output))
+    let mut disk = FileDisk::new(&rt);
+    let status = sc_top::top(
+        rt.alloc(),
+        words.as_slice(),
+        &mut input,
+        &mut output,
+        &mut disk,
+    );
+    ExitCode::from(status)
 }
 
 // The words after the program's name. A command line with a word that is not UTF-8 is no command, and is

@@ -1,3 +1,6 @@
+pub mod CrossingLemmas
+pub mod FrontLemmas
+pub mod JournalLemmas
 pub mod Promise
 pub mod ReportLemmas
 pub mod RunLemmas

@@ -1,5 +1,5 @@
--- The run of a script from the empty host keeps the whole promise.
-use Rattle.std.proofs.Common.{◌≡◌, ◌≢◌, ℕ, zero, suc, ◌+◌, ◌≤◌, Bool, true, false, cond, Option, None, List, [], ◌∷◌, ◌++◌, refl, sym, ap, subst, ◌∙◌, arith}
+-- The run of a script keeps the whole promise, and its first entries as much as they can.
+use Rattle.std.proofs.Common.{◌≡◌, ◌≢◌, ℕ, zero, suc, ◌+◌, ◌≤◌, Bool, true, false, cond, Option, None, List, [], ◌∷◌, ◌++◌, append-nil, refl, sym, ap, subst, ◌∙◌, arith}
 use Rattle.std.specs.List.{AllByRecursion}
 use Rattle.std.proofs.lemmas.List.Sums.{sum_by-cons}
 use Rattle.sc_types.specs.declared.command.Command.{Command}
@@ -11,17 +11,17 @@ use Rattle.sc_script.specs.declared.script.Script.{Script}
 use Rattle.sc_script.specs.Steps.{HasNoStep, IsNoStep}
 use Rattle.sc_core.specs.Commands.{answer}
 use Rattle.sc_core.specs.Cues.{ready}
-use Rattle.sc_core.specs.Histories.{replay}
+use Rattle.sc_book.specs.Books.{opening}
+use Rattle.sc_core.specs.Accepted.{after}
+use Rattle.sc_core.specs.Histories.{IsAtMostOnce, IsLegal, replay}
+use Rattle.sc_core.proofs.AcceptedLemmas.{legal_more, legal_parts}
+use Rattle.sc_core.proofs.ChangeLemmas.{change_of}
 use Rattle.sc_core.specs.Hosts.{empty_host}
 use Rattle.sc_core.proofs.GivenLemmas.{given_from}
-use Rattle.sc_core.proofs.NameLemmas.{AreDistinct}
+use Rattle.sc_core.proofs.NameLemmas.{AreDistinct, distinct_kept}
 use Rattle.sc_core.proofs.Once.{consumed_once}
-use Rattle.sc_top.specs.Promise.{Reports}
-use Rattle.sc_top.specs.Report.{end_word, report}
-use Rattle.sc_top.specs.Run.{IsHistoryOf, IsRun, Made, accepted_steps, in_turn, is_accepted_step, of_client, of_clients}
-use Rattle.sc_top.specs.Running.{HasRun}
-use Rattle.sc_top.specs.Statuses.{end_status}
-use Rattle.sc_top.specs.declared.run.Run.{Run}
+use Rattle.sc_top.specs.Run.{IsFront, IsHistoryOf, IsRun, IsWholeHistoryOf, Made, accepted_steps, entries_of, in_turn, is_accepted_step, of_client, of_clients}
+use Rattle.sc_top.proofs.FrontLemmas.{served_in_part, steps_front}
 use Rattle.sc_top.proofs.RunsLemmas.{First, RunsOn, distinct_after, first_entry, legal_of_run, made, over_ready, stepped}
 use Rattle.sc_top.proofs.ServedLemmas.{accepted_ready, served_of_run}
 
@@ -101,32 +101,70 @@ client_steps n [] h = tt
 client_steps n (cs ∷ css) h =
     both_steps (of_client n cs) (of_clients (n + 1) css) (own_steps n cs h.0) (client_steps (n + 1) css h.1)
 
--- the whole promise
-pub history_of_run : (s : Script) (budget : ℕ) (history : List Entry) → HasNoStep s
-    → IsRun empty_host (in_turn s) budget history → IsHistoryOf s budget history
-history_of_run s budget history steps run =
-    let legal = legal_of_run history empty_host (in_turn s) budget run in
-    let none = both_steps (of_client 0 s.setup) (of_clients 1 s.clients) (own_steps 0 s.setup steps.setup)
-    (client_steps 1 s.clients steps.clients) in
+-- ---- the opening, and the commands before it
+
+-- the names of sessions are distinct whatever was done
+pub distinct_commands : (g : HostImage) (cs : List Command) → AreDistinct g.sessions → AreDistinct (after g cs).sessions
+distinct_commands g [] distinct = distinct
+distinct_commands g (c ∷ cs) distinct =
+    distinct_commands (answer g c).host cs (distinct_kept g c (answer g c) (change_of g c) distinct)
+
+-- the commands before the opening are a legal history too
+pub entries_legal : (g : HostImage) (cs : List Command) → IsLegal g (entries_of g cs)
+entries_legal g [] = tt
+entries_legal g (c ∷ cs) = (record { reply = refl; logs = refl; sent = refl }, entries_legal (answer g c).host cs)
+
+pub entries_replayed : (g : HostImage) (cs : List Command) → replay g (entries_of g cs) ≡ after g cs
+entries_replayed g [] = refl
+entries_replayed g (c ∷ cs) = entries_replayed (answer g c).host cs
+
+-- so no event is consumed twice, those included that were given before
+pub once_of : (past : List Command) (history : List Entry) → IsLegal (opening past) history
+    → IsAtMostOnce (entries_of empty_host past ++ history)
+once_of past history legal =
+    let all = legal_more empty_host (entries_of empty_host past) history (entries_legal empty_host past)
+    (subst (λ g. IsLegal g history) (sym (entries_replayed empty_host past)) legal) in
     record {
-      legal = legal;
-      once = record { once = consumed_once history legal; given = given_from [] empty_host history legal tt };
-      served = served_of_run history empty_host s budget tt run;
-      within = within_of_run history empty_host (in_turn s) budget none run;
-      spent = spent_of_run history empty_host (in_turn s) budget tt none run;
-      run = run;
+      once = consumed_once (entries_of empty_host past ++ history) all;
+      given = given_from [] empty_host (entries_of empty_host past ++ history) all tt;
     }
 
--- a run that is done is reported with the status and the word of its end
-pub reports_run : (r : Run) (s : Script) (budget : ℕ) (end : Option (List ℕ)) (bytes : List ℕ) → HasNoStep s
-    → HasRun r budget (in_turn s) → ready r.host.image ≡ end → bytes ≡ report 0 r.host.image r.history (end_word end)
-    → Reports s budget (end_status end) bytes
-reports_run r s budget end bytes steps ran is_ready is =
-    let ends = sym is_ready ∙ ap ready ran.host in
+-- ---- the promise
+
+no_steps : (s : Script) → HasNoStep s → AllByRecursion NoStepMade (in_turn s)
+no_steps s steps =
+    both_steps (of_client 0 s.setup) (of_clients 1 s.clients) (own_steps 0 s.setup steps.setup)
+    (client_steps 1 s.clients steps.clients)
+
+-- the first entries of the run of a script
+pub history_of_front : (past : List Command) (s : Script) (budget : ℕ) (history : List Entry) → HasNoStep s
+    → IsFront (opening past) (in_turn s) budget history → IsHistoryOf past s budget history
+history_of_front past s budget history steps front =
+    let g = opening past in
+    let distinct = distinct_commands empty_host past tt in
+    let legal = (legal_parts g history front.rest
+    (legal_of_run (history ++ front.rest) g (in_turn s) budget front.run)).0 in
+    let whole = within_of_run (history ++ front.rest) g (in_turn s) budget (no_steps s steps) front.run in
+    let few = steps_front history front.rest in
     record {
-      history = r.history;
-      promise = history_of_run s budget r.history steps ran.run;
-      ends = ap end_status ends;
-      is = is ∙ ap (λ h. report 0 h r.history (end_word end)) ran.host
-          ∙ ap (λ o. report 0 (replay empty_host r.history) r.history (end_word o)) ends;
+      legal = legal;
+      once = once_of past history legal;
+      served = served_in_part s history front.rest (served_of_run (history ++ front.rest) g s budget distinct front.run);
+      within = omega (arith, whole, few);
+      run = front;
+    }
+
+-- the whole run of a script
+pub history_of_run : (past : List Command) (s : Script) (budget : ℕ) (history : List Entry) → HasNoStep s
+    → IsRun (opening past) (in_turn s) budget history → IsWholeHistoryOf past s budget history
+history_of_run past s budget history steps run =
+    let g = opening past in
+    let distinct = distinct_commands empty_host past tt in
+    let front : IsFront g (in_turn s) budget history =
+    record { rest = []; run = subst (IsRun g (in_turn s) budget) (sym (append-nil history)) run } in
+    record {
+      part = history_of_front past s budget history steps front;
+      served = served_of_run history g s budget distinct run;
+      spent = spent_of_run history g (in_turn s) budget distinct (no_steps s steps) run;
+      run = run;
     }

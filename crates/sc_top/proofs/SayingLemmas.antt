@@ -1,57 +1,89 @@
--- From what was read to what a status promises of what is said.
-use Rattle.std.proofs.Common.{◌≡◌, ℕ, Option, Some, List, Result, Ok, Err, IfOk, refl, sym, subst}
+-- From what was read, and what a journal came to, to what a status promises of what is said.
+use Rattle.std.proofs.Common.{◌≡◌, ◌∙◌, ℕ, Bool, Option, None, Some, List, Result, Ok, Err, IfOk, OnErr, refl, sym, ap, subst, codes}
+use Rattle.std.specs.Prelude.{is_some}
 use Rattle.sc_law.specs.LegalCharts.{legal_chart_of}
 use Rattle.sc_types.specs.declared.chart.Chart.{Chart}
 use Rattle.sc_types.specs.declared.chart.ChartFault.{ChartFault}
 use Rattle.sc_script.specs.Scripts.{Spelled, script_of}
 use Rattle.sc_script.specs.declared.script.Script.{Script}
-use Rattle.sc_top.specs.Promise.{IsRead, Reports, Says, faulty, legal}
+use Rattle.sc_top.specs.Promise.{Checks, IsRead, Known, Leaves, LeavesScript, LeftBy, Runs, Says, SaysOfScript, Shows, faulty, legal, initialised, checked, left_run, spelled}
 use Rattle.sc_top.specs.Promise as promise
-use Rattle.sc_top.specs.Sayings.{SaysOfScript, check_status, check_text, no_script, ran, status_of, text_of}
+use Rattle.sc_top.specs.Journals.{DiskKnown, IsUnwritten}
+use Rattle.sc_top.specs.Sayings.{check_status, check_text, status_of, text_of}
 use Rattle.sc_top.specs.declared.saying.Saying.{Saying}
 use Rattle.sc_top.specs.declared.status.Status.{Status}
 use Rattle.sc_top.specs.declared.status.Status.TheVariants as done
 use Rattle.sc_top.specs.declared.words.Asked.{Asked}
-use Rattle.sc_top.specs.declared.words.Asked.TheVariants.{Check, Run}
-
--- of a text that should spell a script
-says_of_script : (budget : ℕ) (source : Option (List ℕ)) (faulted : Type 0) (text : List ℕ) → IsRead (Some (Run budget)) source text
-    → (spelled : Spelled) → script_of text ≡ spelled → (status : Status) (said : List ℕ)
-    → SaysOfScript budget spelled status said → Says (Some (Run budget)) source faulted status said
-says_of_script budget source faulted text told _ is _ _ (no_script fault) = promise.no_script budget text fault refl told is
-says_of_script budget source faulted text told _ is _ _ (ran script status bytes reports) =
-    promise.ran budget text script status bytes refl told is reports
+use Rattle.sc_top.specs.declared.words.Asked.TheVariants.{Check, Init, Run, Show}
 
 -- what is said of a script that was read is what the promise says of a run
-pub run_says : {E : Type 0} (budget : ℕ) (source : Option (List ℕ)) (faulted : Type 0) (text : List ℕ) (r : Result Saying E)
-    → IsRead (Some (Run budget)) source text
-    → IfOk r (λ s. SaysOfScript budget (script_of text) (status_of s) (text_of s))
-    → IfOk r (λ s. Says (Some (Run budget)) source faulted (status_of s) (text_of s))
-run_says budget source faulted text (Ok s) told says =
-    says_of_script budget source faulted text told (script_of text) refl (status_of s) (text_of s) says
-run_says budget source faulted text (Err e) told says = tt
+pub run_says : {E : Type 0} (budget : ℕ) (k : Known) (text : List ℕ) (r : Result Saying E)
+    → IsRead (Some (Run budget)) k.source text
+    → IfOk r (λ s. SaysOfScript k.disk budget (script_of text) (status_of s) (text_of s))
+    → IfOk r (λ s. Says (Some (Run budget)) k (status_of s) (text_of s))
+run_says budget k text (Ok s) told says = promise.run budget text (status_of s) (text_of s) refl told says
+run_says budget k text (Err e) told says = tt
+
+-- and what is left where memory was wanting
+pub run_leaves : {E : Type 0} (budget : ℕ) (k : Known) (text : List ℕ) (r : Result Saying E)
+    → IsRead (Some (Run budget)) k.source text → OnErr r (LeavesScript k.disk budget (script_of text))
+    → OnErr r (Leaves (Some (Run budget)) k)
+run_leaves budget k text (Ok s) told leaves = tt
+run_leaves budget k text (Err e) told leaves = promise.left_script budget text refl told leaves
+
+-- what is shown
+pub show_says : {E : Type 0} (k : Known) (r : Result Saying E) → IfOk r (λ s. Shows k.disk (status_of s) (text_of s))
+    → IfOk r (λ s. Says (Some Show) k (status_of s) (text_of s))
+show_says k (Ok s) shows = promise.tells (status_of s) (text_of s) refl shows
+show_says k (Err e) shows = tt
+
+pub show_leaves : {E : Type 0} (k : Known) (r : Result Saying E) → OnErr r (IsUnwritten k.disk)
+    → OnErr r (Leaves (Some Show) k)
+show_leaves k (Ok s) unwritten = tt
+show_leaves k (Err e) unwritten = promise.unwritten unwritten
+
+-- what is said of a chart
+pub check_says : {E : Type 0} (k : Known) (r : Result Saying E)
+    → IfOk r (λ s. Checks k.source k.read_failed (status_of s) (text_of s))
+    → IfOk r (λ s. Says (Some Check) k (status_of s) (text_of s))
+check_says k (Ok s) checks = checked (status_of s) (text_of s) refl checks
+check_says k (Err e) checks = tt
 
 -- of a text that should spell a chart
-says_of_chart : (source : Option (List ℕ)) (faulted : Type 0) (text : List ℕ) → IsRead (Some Check) source text
+chart_says : (source : Option (List ℕ)) (faulted : Type 0) (text : List ℕ) → IsRead (Some Check) source text
     → (status : Status) (said : List ℕ) (r : Result Chart ChartFault) → legal_chart_of text ≡ r
-    → status ≡ check_status r → said ≡ check_text r → Says (Some Check) source faulted status said
-says_of_chart source faulted text told status said (Ok chart) read is_status is_said =
-    subst (λ n. Says (Some Check) source faulted n said) (sym is_status)
-    (subst (λ t. Says (Some Check) source faulted done.Done t) (sym is_said) (legal text chart refl told read))
-says_of_chart source faulted text told status said (Err fault) read is_status is_said =
-    subst (λ n. Says (Some Check) source faulted n said) (sym is_status)
-    (subst (λ t. Says (Some Check) source faulted done.Faulty t) (sym is_said) (faulty text fault refl told read))
+    → status ≡ check_status r → said ≡ check_text r → Checks source faulted status said
+chart_says source faulted text told status said (Ok chart) read is_status is_said =
+    subst (λ n. Checks source faulted n said) (sym is_status)
+    (subst (λ t. Checks source faulted done.Done t) (sym is_said) (legal text chart told read))
+chart_says source faulted text told status said (Err fault) read is_status is_said =
+    subst (λ n. Checks source faulted n said) (sym is_status)
+    (subst (λ t. Checks source faulted done.Faulty t) (sym is_said) (faulty text fault told read))
 
 -- what is said of a chart that was read is what the promise says of a check
-pub check_says : {E : Type 0} (source : Option (List ℕ)) (faulted : Type 0) (text : List ℕ) (r : Result Saying E)
+pub text_says : {E : Type 0} (source : Option (List ℕ)) (faulted : Type 0) (text : List ℕ) (r : Result Saying E)
     → IsRead (Some Check) source text → IfOk r (λ s. status_of s ≡ check_status (legal_chart_of text))
     → IfOk r (λ s. text_of s ≡ check_text (legal_chart_of text))
-    → IfOk r (λ s. Says (Some Check) source faulted (status_of s) (text_of s))
-check_says source faulted text (Ok s) told is_status is_text =
-    says_of_chart source faulted text told (status_of s) (text_of s) (legal_chart_of text) refl is_status is_text
-check_says source faulted text (Err e) told is_status is_text = tt
+    → IfOk r (λ s. Checks source faulted (status_of s) (text_of s))
+text_says source faulted text (Ok s) told is_status is_text =
+    chart_says source faulted text told (status_of s) (text_of s) (legal_chart_of text) refl is_status is_text
+text_says source faulted text (Err e) told is_status is_text = tt
 
 -- what is known of a text where the source tells it is known of an equal one
 pub told_text : (asked : Option Asked) (source : Option (List ℕ)) (a b : List ℕ) → a ≡ b → IsRead asked source a
     → IsRead asked source b
 told_text asked source a b e = subst (IsRead asked source) e
+
+-- of a text that spells a script
+
+pub script_says : {E : Type 0} (k : DiskKnown) (budget : ℕ) (x : Spelled) (script : Script) (r : Result Saying E)
+    → x ≡ Ok script → IfOk r (λ s. Runs k script budget (status_of s) (text_of s))
+    → IfOk r (λ s. SaysOfScript k budget x (status_of s) (text_of s))
+script_says k budget x script (Ok s) is runs =
+    subst (λ y. SaysOfScript k budget y (status_of s) (text_of s)) (sym is) (spelled script (status_of s) (text_of s) runs)
+script_says k budget x script (Err e) is runs = tt
+
+pub script_leaves : {E : Type 0} (k : DiskKnown) (budget : ℕ) (x : Spelled) (script : Script) (r : Result Saying E)
+    → x ≡ Ok script → OnErr r (LeftBy k script budget) → OnErr r (LeavesScript k budget x)
+script_leaves k budget x script (Ok s) is left = tt
+script_leaves k budget x script (Err e) is left = subst (LeavesScript k budget) (sym is) (left_run script left)

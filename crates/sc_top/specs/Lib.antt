@@ -1,4 +1,5 @@
 pub mod Asked
+pub mod Journals
 pub mod Lines
 pub mod Promise
 pub mod Report

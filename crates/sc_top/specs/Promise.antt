@@ -1,56 +1,119 @@
 -- What the program promises: the line or the report that goes with each status. This host's own rule.
-use Rattle.std.specs.Prelude.{ℕ, ◌≡◌, Option, Some, None, IfSome, List, ◌++◌, take, decimal, codes, Ok, Err}
+use Rattle.std.specs.Prelude.{ℕ, ◌≡◌, ◌≢◌, Option, Some, None, IfSome, List, [], ◌++◌, length, take, decimal, codes, Ok, Err}
 use Rattle.sc_types.specs.ChartTexts.{count_states}
 use Rattle.sc_types.specs.declared.chart.Chart.{Chart}
 use Rattle.sc_types.specs.declared.chart.ChartFault.{ChartFault}
+use Rattle.sc_types.specs.declared.command.Command.{Command}
 use Rattle.sc_types.specs.declared.history.Entry.{Entry}
 use Rattle.sc_law.specs.LegalCharts.{legal_chart_of}
-use Rattle.sc_script.specs.Scripts.{script_of}
+use Rattle.sc_script.specs.Scripts.{Spelled, script_of}
 use Rattle.sc_script.specs.declared.fault.ScriptFault.{ScriptFault}
 use Rattle.sc_script.specs.declared.script.Script.{Script}
+use Rattle.sc_book.specs.Books.{opening}
 use Rattle.sc_core.specs.Cues.{ready}
-use Rattle.sc_core.specs.Histories.{replay}
-use Rattle.sc_core.specs.Hosts.{empty_host}
 use Rattle.sc_top.specs.Asked.{most_read}
+use Rattle.sc_top.specs.Journals.{Creates, DiskKnown, FailsToOpen, HasNoRoomFor, IsDoubtful, IsStored, IsUnwritten, Opening, count_after, host_after}
 use Rattle.sc_top.specs.Lines.{line}
-use Rattle.sc_top.specs.Report.{end_word, fault_text, report, script_fault_text}
-use Rattle.sc_top.specs.Run.{IsHistoryOf}
+use Rattle.sc_top.specs.Report.{fault_text, report, script_fault_text}
+use Rattle.sc_top.specs.Run.{ComesNext, IsHistoryOf, IsWholeHistoryOf}
 use Rattle.sc_top.specs.Statuses.{end_status}
+use Rattle.sc_top.specs.declared.end.End.{End}
+use Rattle.sc_top.specs.declared.end.End.TheVariants as end
 use Rattle.sc_top.specs.declared.status.Status.{Status}
 use Rattle.sc_top.specs.declared.status.Status.TheVariants as status
 use Rattle.sc_top.specs.declared.words.Asked.{Asked}
-use Rattle.sc_top.specs.declared.words.Asked.TheVariants.{Run, Check}
+use Rattle.sc_top.specs.declared.words.Asked.TheVariants.{Init, Run, Show, Check}
 
--- The status and the bytes of a script's run: they are those of one history from the empty host, with all that is promised
+-- How a run ended, and what the disk holds then. It came to its end, and no session is ready, or one is and the steps are
+-- used up; or the disk failed, and may have left the next command in doubt; or there is no room for the next command.
+pub data Ends (k : DiskKnown) (past : List Command) (s : Script) (budget : ℕ) (history : List Entry) : End → Type 0 where
+  quiet : IsWholeHistoryOf past s budget history → ready (host_after past history) ≡ None
+      → (k.told → IsStored k (count_after past history) (host_after past history)) → Ends k past s budget history end.Quiet
+  spent : IsWholeHistoryOf past s budget history → ready (host_after past history) ≢ None
+      → (k.told → IsStored k (count_after past history) (host_after past history)) → Ends k past s budget history end.Budget
+  failed : IsHistoryOf past s budget history → k.failed → (k.told → IsDoubtful k past s budget history)
+      → Ends k past s budget history end.Disk
+  full : (e : Entry) → IsHistoryOf past s budget history → ComesNext past s budget history e
+      → HasNoRoomFor k past history e
+      → (k.told → IsStored k (count_after past history) (host_after past history)) → Ends k past s budget history end.Full
+
+-- The bytes of a script's run are those of one history from the host that the journal held, with all that is promised
 -- of it.
-pub record Reports (script : Script) (budget : ℕ) (status : Status) (bytes : List ℕ) : Type 0 where
+pub record Reports (k : DiskKnown) (script : Script) (budget : ℕ) (end : End) (bytes : List ℕ) : Type 0 where
+  pub opened : Opening k
   pub history : List Entry
-  pub promise : IsHistoryOf script budget history
-  pub ends : status ≡ end_status (ready (replay empty_host history))
-  pub is : bytes
-      ≡ report 0 (replay empty_host history) history (end_word (ready (replay empty_host history)))
+  pub ends : Ends k opened.past script budget history end
+  pub is : bytes ≡ report (length opened.past) (host_after opened.past history) history end
+
+-- of a script: it was run on the journal's host, or there is none
+pub data Runs (k : DiskKnown) (script : Script) (budget : ℕ) : Status → List ℕ → Type 0 where
+  not_run : (status : Status) (bytes : List ℕ) → FailsToOpen k status bytes → Runs k script budget status bytes
+  ran : (end : End) (bytes : List ℕ) → Reports k script budget end bytes → Runs k script budget (end_status end) bytes
+
+-- of `show`: the journal's host, or why there is none
+pub data Shows (k : DiskKnown) : Status → List ℕ → Type 0 where
+  not_shown : (status : Status) (bytes : List ℕ) → FailsToOpen k status bytes → Shows k status bytes
+  shown : (o : Opening k) → (k.told → IsStored k (length o.past) (opening o.past))
+      → Shows k status.Done (report (length o.past) (opening o.past) [] end.Shown)
+
+-- what is known of the devices before and after a call: what the source had, where that is told; whether its count of
+-- faults rose; and the disk
+pub record Known : Type 1 where
+  pub source : Option (List ℕ)
+  pub read_failed : Type 0
+  pub disk : DiskKnown
+
+abbrev pub known : Option (List ℕ) → Type 0 → DiskKnown → Known
+known source read_failed disk = record { source = source; read_failed = read_failed; disk = disk }
 
 -- what was read of a source for what is asked, where the source tells what it has
 abbrev pub IsRead : Option Asked → Option (List ℕ) → List ℕ → Type 0
 IsRead asked source text = IfSome source (λ all. text ≡ take (most_read asked) all)
 
--- The bytes that go with a status, for what is asked and what the source has, where that is told; `faulted` says that the
--- source's count of faults rose.
-pub data Says (asked : Option Asked) (source : Option (List ℕ)) (faulted : Type 0) : Status → List ℕ → Type 0 where
-  other_words : asked ≡ None → Says asked source faulted status.OtherWords (codes "words\n")
-  read_fault : (what : Asked) → asked ≡ Some what → faulted → Says asked source faulted status.ReadFault (codes "read\n")
-  no_script : (budget : ℕ) (text : List ℕ) (fault : ScriptFault) → asked ≡ Some (Run budget) → IsRead asked source text
-      → script_of text ≡ Err fault
-      → Says asked source faulted status.BadScript (line (codes "script " ++ script_fault_text fault))
-  ran : (budget : ℕ) (text : List ℕ) (script : Script) (status : Status) (bytes : List ℕ) → asked ≡ Some (Run budget)
-      → IsRead asked source text → script_of text ≡ Ok script → Reports script budget status bytes → Says asked source faulted status bytes
-  legal : (text : List ℕ) (chart : Chart) → asked ≡ Some Check → IsRead asked source text → legal_chart_of text ≡ Ok chart
-      → Says asked source faulted status.Done (line (codes "ok " ++ decimal (count_states chart)))
-  faulty : (text : List ℕ) (fault : ChartFault) → asked ≡ Some Check → IsRead asked source text
-      → legal_chart_of text ≡ Err fault
-      → Says asked source faulted status.Faulty (line (codes "chart " ++ fault_text fault))
+-- of a text that should spell a script
+pub data SaysOfScript (k : DiskKnown) (budget : ℕ) : Spelled → Status → List ℕ → Type 0 where
+  no_script : (fault : ScriptFault)
+      → SaysOfScript k budget (Err fault) status.BadScript (line (codes "script " ++ script_fault_text fault))
+  spelled : (script : Script) (status : Status) (bytes : List ℕ) → Runs k script budget status bytes
+      → SaysOfScript k budget (Ok script) status bytes
+
+-- of `check`: the text is a chart, or has this fault
+pub data Checks (source : Option (List ℕ)) (read_failed : Type 0) : Status → List ℕ → Type 0 where
+  read_fault : read_failed → Checks source read_failed status.ReadFault (codes "read\n")
+  legal : (text : List ℕ) (chart : Chart) → IsRead (Some Check) source text → legal_chart_of text ≡ Ok chart
+      → Checks source read_failed status.Done (line (codes "ok " ++ decimal (count_states chart)))
+  faulty : (text : List ℕ) (fault : ChartFault) → IsRead (Some Check) source text → legal_chart_of text ≡ Err fault
+      → Checks source read_failed status.Faulty (line (codes "chart " ++ fault_text fault))
+
+-- the bytes that go with a status, for what is asked and what is known of the devices
+pub data Says (asked : Option Asked) (k : Known) : Status → List ℕ → Type 0 where
+  other_words : asked ≡ None → Says asked k status.OtherWords (codes "words\n")
+  initialised : (status : Status) (bytes : List ℕ) → asked ≡ Some Init → Creates k.disk status bytes
+      → Says asked k status bytes
+  unread_script : (budget : ℕ) → asked ≡ Some (Run budget) → k.read_failed → Says asked k status.ReadFault (codes "read\n")
+  run : (budget : ℕ) (text : List ℕ) (status : Status) (bytes : List ℕ) → asked ≡ Some (Run budget)
+      → IsRead asked k.source text → SaysOfScript k.disk budget (script_of text) status bytes → Says asked k status bytes
+  tells : (status : Status) (bytes : List ℕ) → asked ≡ Some Show → Shows k.disk status bytes → Says asked k status bytes
+  checked : (status : Status) (bytes : List ℕ) → asked ≡ Some Check → Checks k.source k.read_failed status bytes
+      → Says asked k status bytes
 
 -- these bytes are those of some status other than the two that say nothing of their own
-pub record Output (asked : Option Asked) (source : Option (List ℕ)) (faulted : Type 0) (text : List ℕ) : Type 0 where
+pub record Output (asked : Option Asked) (k : Known) (text : List ℕ) : Type 0 where
   pub status : Status
-  pub says : Says asked source faulted status text
+  pub says : Says asked k status text
+
+-- Where memory was wanting in a script's run: the journal was not opened, or the disk holds what the run came to.
+pub data LeftBy (k : DiskKnown) (script : Script) (budget : ℕ) : Type 0 where
+  unopened : IsUnwritten k → LeftBy k script budget
+  left_by : (o : Opening k) (history : List Entry) → IsHistoryOf o.past script budget history
+      → (k.told → IsDoubtful k o.past script budget history) → LeftBy k script budget
+
+pub data LeavesScript (k : DiskKnown) (budget : ℕ) : Spelled → Type 0 where
+  unread : (spelled : Spelled) → IsUnwritten k → LeavesScript k budget spelled
+  left_run : (script : Script) → LeftBy k script budget → LeavesScript k budget (Ok script)
+
+-- where memory was wanting
+pub data Leaves (asked : Option Asked) (k : Known) : Type 0 where
+  unwritten : IsUnwritten k.disk → Leaves asked k
+  left_script : (budget : ℕ) (text : List ℕ) → asked ≡ Some (Run budget) → IsRead asked k.source text
+      → LeavesScript k.disk budget (script_of text) → Leaves asked k

@@ -28,6 +28,8 @@ use Rattle.sc_types.specs.Values.{text_literal, value_text}
 use Rattle.sc_core.specs.Hosts.{chart_named}
 use Rattle.sc_script.specs.Causes.{cause_number}
 use Rattle.sc_script.specs.declared.fault.ScriptFault.{ScriptFault}
+use Rattle.sc_top.specs.Statuses.{end_word}
+use Rattle.sc_top.specs.declared.end.End.{End}
 use Rattle.sc_top.specs.Lines.{command_text, line}
 use Rattle.sc_law.specs.Tree.{node_of, id_of}
 
@@ -136,17 +138,12 @@ state_line c s queued = s.session ++ codes " " ++ s.chart ++ codes " " ++ phase_
 abbrev pub session_text : HostImage → SessionImage → List ℕ
 session_text g s = state_line (chart_named g s.state.chart) s.state (length s.queued)
 
--- the word for how a run ends, by the session that is ready then
-abbrev pub end_word : Option (List ℕ) → List ℕ
-end_word None = codes "quiet"
-end_word (Some session) = codes "budget"
-
 -- the report of a history: how many commands were journaled at the opening, the entries, the host at the end, and
 -- the word for how the run ended
-abbrev pub report : ℕ → HostImage → List Entry → List ℕ → List ℕ
+abbrev pub report : ℕ → HostImage → List Entry → End → List ℕ
 report opened g history end =
     line (codes "open " ++ decimal opened) ++ entries_text 1 history
     ++ line (codes "sessions " ++ decimal (length g.sessions))
     ++ flat_map (session_text g) g.sessions
     ++ line (codes "clock " ++ decimal g.clock ++ codes " timers " ++ decimal (length g.timers))
-    ++ line (codes "end " ++ end)
+    ++ line (codes "end " ++ end_word end)

@@ -11,6 +11,8 @@ use Rattle.sc_types.specs.declared.history.Who.{Who}
 use Rattle.sc_types.specs.declared.history.Who.TheVariants.{Client, Worker}
 use Rattle.sc_types.specs.declared.host.HostImage.{HostImage}
 use Rattle.sc_script.specs.declared.script.Script.{Script}
+use Rattle.sc_book.specs.Books.{opening}
+use Rattle.sc_core.specs.Accepted.{is_accepted}
 use Rattle.sc_core.specs.Commands.{answer}
 use Rattle.sc_core.specs.Cues.{ready}
 use Rattle.sc_core.specs.Histories.{IsLegal, IsAtMostOnce, Tells, replay}
@@ -107,10 +109,13 @@ abbrev pub is_later : Who → Bool
 is_later Worker = false
 is_later (Client n) = not (n == 0)
 
+abbrev pub is_of_later : Entry → Bool
+is_of_later e = is_later e.who
+
 -- no entry of the set-up stands behind one of another client
 abbrev pub is_setup_first : List Entry → Bool
 is_setup_first [] = true
-is_setup_first (e ∷ es) = not (is_later e.who && list_any is_setup es) && is_setup_first es
+is_setup_first (e ∷ es) = not (is_of_later e && list_any is_setup es) && is_setup_first es
 
 -- each client's commands are made once and in order, those of the set-up before all others, and workers make accepted
 -- steps alone
@@ -119,16 +124,51 @@ pub record Serves (s : Script) (history : List Entry) : Type 0 where
   pub setup : IsTrue (is_setup_first history)
   pub others : IsTrue (list_all is_served history)
 
+-- the items of the first list, and others behind them
+pub record IsPrefix {A : Type 0} (xs ys : List A) : Type 0 where
+  pub rest : List A
+  pub whole : ys ≡ xs ++ rest
+
+-- The same as far as it goes: the first commands of each client, and no other client makes one unless the set-up is whole.
+pub record ServesInPart (s : Script) (history : List Entry) : Type 0 where
+  pub lists : (n : ℕ) → IsPrefix (commands_of (Client n) history) (list_of s n)
+  pub setup_whole : IsTrue (list_any is_of_later history) → commands_of (Client 0) history ≡ s.setup
+  pub setup : IsTrue (is_setup_first history)
+  pub others : IsTrue (list_all is_served history)
+
 abbrev pub accepted_steps : List Entry → ℕ
 accepted_steps history = count_by (λ (e : Entry). is_accepted_step e.command e.reply) history
 
--- The promise for a script that one thread runs from the empty host, with at most so many steps: what was done is one
--- legal history; each accepted event is consumed at most once; the script is served; and where a session is ready at the
--- end, the steps are used up.
-pub record IsHistoryOf (s : Script) (budget : ℕ) (history : List Entry) : Type 0 where
-  pub legal : IsLegal empty_host history
-  pub once : IsAtMostOnce history
-  pub served : Serves s history
+-- the first entries of the run of the commands
+pub record IsFront (g : HostImage) (cs : List Made) (budget : ℕ) (history : List Entry) : Type 0 where
+  pub rest : List Entry
+  pub run : IsRun g cs budget (history ++ rest)
+
+-- the entries of commands that were made before; who made them is not known any more
+abbrev pub entries_of : HostImage → List Command → List Entry
+entries_of g [] = []
+entries_of g (c ∷ cs) =
+    record { who = Worker; command = c; reply = (answer g c).reply; logs = (answer g c).logs; sent = (answer g c).sent }
+    ∷ entries_of (answer g c).host cs
+
+-- The promise for a script that one thread runs, with at most so many steps, on a host that these commands made: what was
+-- done is one legal history; each accepted event is consumed at most once, those included that were given before; each
+-- client is served in order; and it is the run of the script, as far as it goes.
+pub record IsHistoryOf (past : List Command) (s : Script) (budget : ℕ) (history : List Entry) : Type 0 where
+  pub legal : IsLegal (opening past) history
+  pub once : IsAtMostOnce (entries_of empty_host past ++ history)
+  pub served : ServesInPart s history
   pub within : accepted_steps history ≤ budget
-  pub spent : ready (replay empty_host history) ≢ None → accepted_steps history ≡ budget
-  pub run : IsRun empty_host (in_turn s) budget history
+  pub run : IsFront (opening past) (in_turn s) budget history
+
+-- And where the run came to its end: the script is served, and where a session is ready then, the steps are used up.
+pub record IsWholeHistoryOf (past : List Command) (s : Script) (budget : ℕ) (history : List Entry) : Type 0 where
+  pub part : IsHistoryOf past s budget history
+  pub served : Serves s history
+  pub spent : ready (replay (opening past) history) ≢ None → accepted_steps history ≡ budget
+  pub run : IsRun (opening past) (in_turn s) budget history
+
+-- The command of this entry comes next in the run, and the host would accept it.
+pub record ComesNext (past : List Command) (s : Script) (budget : ℕ) (history : List Entry) (e : Entry) : Type 0 where
+  pub run : IsFront (opening past) (in_turn s) budget (history ++ e ∷ [])
+  pub accepted : is_accepted (answer (replay (opening past) history) e.command).reply ≡ true

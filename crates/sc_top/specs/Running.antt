@@ -1,41 +1,142 @@
--- A run under way: the host, the history so far, and the steps that are left. This host's own rule.
-use Rattle.std.specs.Prelude.{ℕ, ◌≡◌, List, [], ◌∷◌, ◌++◌}
+-- A run under way: the book, and the steps that are left. Only private clauses cite these definitions.
+use Rattle.std.specs.Prelude.{ℕ, ◌≡◌, ◌≤◌, ◌⊎◌, true, Option, None, Some, List, [], ◌∷◌, ◌++◌, length}
 use Rattle.sc_types.specs.declared.command.Command.{Command}
 use Rattle.sc_types.specs.declared.history.Entry.{Entry}
 use Rattle.sc_types.specs.declared.history.Who.{Who}
+use Rattle.sc_types.specs.declared.host.HostImage.{HostImage}
+use Rattle.sc_script.specs.declared.script.Script.{Script}
+use Rattle.sc_dev.specs.Causes.{Rose}
+use Rattle.sc_dev.specs.Disks.{DiskOf}
+use Rattle.sc_book.specs.Books.{BookOf, IsBook}
+use Rattle.sc_book.specs.Receipts.{HasNoRoom}
+use Rattle.sc_book.specs.declared.doubt.Doubt.{Doubt}
+use Rattle.sc_book.specs.declared.fault.CallFault.{CallFault}
+use Rattle.sc_book.specs.declared.fault.CallFault.TheVariants.{Disk, Full, NoMemory}
+use Rattle.sc_core.specs.Accepted.{is_accepted}
 use Rattle.sc_core.specs.Commands.{answer}
 use Rattle.sc_core.specs.Histories.{replay}
-use Rattle.sc_core.specs.Hosts.{empty_host}
-use Rattle.sc_top.specs.Run.{Made, of_script, next, Enters, IsRun}
-use Rattle.sc_top.specs.declared.run.Run.{Run}
+use Rattle.sc_top.specs.Run.{Made, of_script, in_turn, next, Enters, IsRun}
+
+pub record RunOf (D : Type 0) : Type 0 where
+  pub book : BookOf D
+  pub left : ℕ
+
+abbrev pub run_of : {D : Type 0} → BookOf D → ℕ → RunOf D
+run_of book left = record { book = book; left = left }
+
+-- what each call keeps
+pub record GoesOn {D : Type 0} (tells : Type 0) (may_leave : D → DiskOf → Type 0) (may_have_left : D → ℕ → DiskOf → Type 0)
+    (moment faults identity : D → ℕ) (old new : BookOf D) : Type 0 where
+  pub kept : (past : List Command) → IsBook tells may_leave may_have_left moment past old
+      → IsBook tells may_leave may_have_left moment past new
+  pub opened : new.opened ≡ old.opened
+  pub later : faults old.journal.disk ≤ faults new.journal.disk
+  pub same : identity new.journal.disk ≡ identity old.journal.disk
 
 -- one entry was added
-pub record Makes (old new : Run) (who : Who) (c : Command) : Type 0 where
+pub record Makes {D : Type 0} (old new : RunOf D) (who : Who) (c : Command) : Type 0 where
   pub entry : Entry
-  pub enters : Enters old.host.image who c entry
-  pub history : new.history ≡ old.history ++ entry ∷ []
-  pub host : new.host.image ≡ (answer old.host.image entry.command).host
+  pub enters : Enters old.book.host who c entry
+  pub history : new.book.history ≡ old.book.history ++ entry ∷ []
+  pub host : new.book.host ≡ (answer old.book.host entry.command).host
+  pub doubts : new.book.doubts ≡ old.book.doubts
   pub left : new.left ≡ old.left
 
 -- Entries were added; whatever goes on from there as a run of the commands `after` goes on from the start as a run
 -- of the commands `before`.
-pub record Goes (old new : Run) (before after : List Made) : Type 0 where
+pub record Goes {D : Type 0} (old new : RunOf D) (before after : List Made) : Type 0 where
   pub added : List Entry
-  pub history : new.history ≡ old.history ++ added
-  pub host : new.host.image ≡ replay old.host.image added
-  pub runs : (rest : List Entry) → IsRun new.host.image after new.left rest
-      → IsRun old.host.image before old.left (added ++ rest)
+  pub history : new.book.history ≡ old.book.history ++ added
+  pub host : new.book.host ≡ replay old.book.host added
+  pub doubts : new.book.doubts ≡ old.book.doubts
+  pub runs : (rest : List Entry) → IsRun new.book.host after new.left rest
+      → IsRun old.book.host before old.left (added ++ rest)
 
 -- neither a session nor a budget is left to step with: the script goes on
-abbrev pub HasStepped : Run → Type 0
-HasStepped r = (cs : List Made) → next r.host.image cs r.left ≡ of_script cs
+abbrev pub HasStepped : {D : Type 0} → RunOf D → Type 0
+HasStepped r = (cs : List Made) → next r.book.host cs r.left ≡ of_script cs
 
--- the run of the commands from the empty host has come so far, and these are left
-pub record IsUnderWay (r : Run) (budget : ℕ) (all left : List Made) : Type 0 where
-  pub host : r.host.image ≡ replay empty_host r.history
-  pub runs : (rest : List Entry) → IsRun r.host.image left r.left rest → IsRun empty_host all budget (r.history ++ rest)
+-- the command that was left in doubt
+pub record IsDoubtOf {D : Type 0} (old new : BookOf D) (c : Command) : Type 0 where
+  pub doubt : Doubt
+  pub doubts : new.doubts ≡ old.doubts ++ doubt ∷ []
+  pub command : doubt.command ≡ c
+  pub accepted : is_accepted (answer new.host c).reply ≡ true
 
--- the run of the commands is done
-pub record HasRun (r : Run) (budget : ℕ) (all : List Made) : Type 0 where
-  pub host : r.host.image ≡ replay empty_host r.history
-  pub run : IsRun empty_host all budget r.history
+-- A book with this history and host, which went on from the first one, has no room for the command.
+pub record HadNoRoom {D : Type 0} (tells : Type 0) (may_leave : D → DiskOf → Type 0)
+    (may_have_left : D → ℕ → DiskOf → Type 0) (moment : D → ℕ) (old new : BookOf D) (c : Command) : Type 0 where
+  pub book : BookOf D
+  pub kept : (past : List Command) → IsBook tells may_leave may_have_left moment past old
+      → IsBook tells may_leave may_have_left moment past book
+  pub history : book.history ≡ new.history
+  pub host : book.host ≡ new.host
+  pub no_room : HasNoRoom c book
+
+-- why a command was not answered
+abbrev pub IsWhy : {D : Type 0} → Type 0 → (D → DiskOf → Type 0) → (D → ℕ → DiskOf → Type 0) → (D → ℕ) → (D → ℕ)
+    → CallFault → BookOf D → BookOf D → Command → Type 0
+IsWhy tells may_leave may_have_left moment faults Disk old new c =
+    Rose (faults old.journal.disk) (faults new.journal.disk) × ((new.doubts ≡ old.doubts) ⊎ IsDoubtOf old new c)
+IsWhy tells may_leave may_have_left moment faults Full old new c =
+    (new.doubts ≡ old.doubts) × HadNoRoom tells may_leave may_have_left moment old new c
+IsWhy tells may_leave may_have_left moment faults NoMemory old new c = new.doubts ≡ old.doubts
+
+-- no entry was added
+pub record IsUnmade {D : Type 0} (tells : Type 0) (may_leave : D → DiskOf → Type 0)
+    (may_have_left : D → ℕ → DiskOf → Type 0) (moment faults : D → ℕ) (fault : CallFault) (old new : RunOf D)
+    (c : Command) : Type 0 where
+  pub history : new.book.history ≡ old.book.history
+  pub host : new.book.host ≡ old.book.host
+  pub why : IsWhy tells may_leave may_have_left moment faults fault old.book new.book c
+
+-- The run reached this host by these entries, and may go on from there.
+pub record Reaches {D : Type 0} (old : RunOf D) (before : List Made) (added : List Entry) (g : HostImage) : Type 0 where
+  pub commands : List Made
+  pub steps : ℕ
+  pub runs : (rest : List Entry) → IsRun g commands steps rest → IsRun old.book.host before old.left (added ++ rest)
+
+-- the entry of the command that comes next
+pub record Faces {D : Type 0} (old new : RunOf D) (before : List Made) (added : List Entry) : Type 0 where
+  pub entry : Entry
+  pub reaches : Reaches old before (added ++ entry ∷ []) (answer new.book.host entry.command).host
+
+-- why a run stopped: the command that came next was not answered, or memory was wanting
+pub data Stopped {D : Type 0} (tells : Type 0) (may_leave : D → DiskOf → Type 0)
+    (may_have_left : D → ℕ → DiskOf → Type 0) (moment faults : D → ℕ) (old new : RunOf D) (before : List Made)
+    (added : List Entry) : CallFault → Type 0 where
+  unanswered : (fault : CallFault) (next : Faces old new before added)
+      → IsWhy tells may_leave may_have_left moment faults fault old.book new.book next.entry.command
+      → Stopped tells may_leave may_have_left moment faults old new before added fault
+  no_memory : new.book.doubts ≡ old.book.doubts
+      → Stopped tells may_leave may_have_left moment faults old new before added NoMemory
+
+-- entries were added, and then the run stopped
+pub record Stops {D : Type 0} (tells : Type 0) (may_leave : D → DiskOf → Type 0)
+    (may_have_left : D → ℕ → DiskOf → Type 0) (moment faults : D → ℕ) (fault : CallFault) (old new : RunOf D)
+    (before : List Made) : Type 0 where
+  pub added : List Entry
+  pub history : new.book.history ≡ old.book.history ++ added
+  pub host : new.book.host ≡ replay old.book.host added
+  pub reaches : Reaches old before added new.book.host
+  pub why : Stopped tells may_leave may_have_left moment faults old new before added fault
+
+-- how the run of the commands ended, by its fault where there was one
+abbrev pub HowEnded : {D : Type 0} → Type 0 → (D → DiskOf → Type 0) → (D → ℕ → DiskOf → Type 0) → (D → ℕ) → (D → ℕ)
+    → RunOf D → RunOf D → List Made → Option CallFault → Type 0
+HowEnded tells may_leave may_have_left moment faults old new all None = Goes old new all [] × HasStepped new
+HowEnded tells may_leave may_have_left moment faults old new all (Some fault) =
+    Stops tells may_leave may_have_left moment faults fault old new all
+
+-- A run that began with this book and so many steps has ended, and left this host, this count of commands at the opening,
+-- this history and this disk.
+pub record HasEnded {D : Type 0} (tells : Type 0) (may_leave : D → DiskOf → Type 0)
+    (may_have_left : D → ℕ → DiskOf → Type 0) (moment faults identity : D → ℕ) (old : BookOf D) (budget : ℕ)
+    (all : List Made) (g : HostImage) (n : ℕ) (entries : List Entry) (left : D) (fault : Option CallFault) : Type 0 where
+  pub run : RunOf D
+  pub goes_on : GoesOn tells may_leave may_have_left moment faults identity old run.book
+  pub how : HowEnded tells may_leave may_have_left moment faults (run_of old budget) run all fault
+  pub host : run.book.host ≡ g
+  pub opened : run.book.opened ≡ n
+  pub history : run.book.history ≡ entries
+  pub disk : run.book.journal.disk ≡ left

@@ -1,7 +1,9 @@
--- The numbers that the program ends with. This host's own rule.
-use Rattle.std.specs.Prelude.{ℕ, List, Option, Some, None}
+-- The numbers that the program ends with, and how reports end. This host's own rule.
+use Rattle.std.specs.Prelude.{ℕ, List, codes}
+use Rattle.sc_top.specs.declared.end.End.{End}
+use Rattle.sc_top.specs.declared.end.End.TheVariants as end
 use Rattle.sc_top.specs.declared.status.Status.{Status}
-use Rattle.sc_top.specs.declared.status.Status.TheVariants.{Done, OtherWords, BadScript, Faulty, ReadFault, WriteFault, OutOfMemory, Budget}
+use Rattle.sc_top.specs.declared.status.Status.TheVariants.{Done, OtherWords, BadScript, Faulty, ReadFault, WriteFault, DiskFault, OutOfMemory, Budget, BadJournal, Full, Exists}
 
 abbrev pub code : Status → ℕ
 code Done = 0
@@ -10,10 +12,25 @@ code BadScript = 2
 code Faulty = 3
 code ReadFault = 4
 code WriteFault = 5
+code DiskFault = 6
 code OutOfMemory = 7
 code Budget = 8
+code BadJournal = 9
+code Full = 10
+code Exists = 11
 
--- how a run ends, by the session that is ready then
-abbrev pub end_status : Option (List ℕ) → Status
-end_status None = Done
-end_status (Some session) = Budget
+-- the status of a report that ends so
+abbrev pub end_status : End → Status
+end_status end.Quiet = Done
+end_status end.Budget = Budget
+end_status end.Disk = DiskFault
+end_status end.Full = Full
+end_status end.Shown = Done
+
+-- the word of its last line
+abbrev pub end_word : End → List ℕ
+end_word end.Quiet = codes "quiet"
+end_word end.Budget = codes "budget"
+end_word end.Disk = codes "disk"
+end_word end.Full = codes "full"
+end_word end.Shown = codes "shown"

@@ -21,7 +21,7 @@ pub(crate) fn check_text(alloc: Global, text: &[u8]) -> Result<Saying, NoMemory>
     ensures text { IfOk result (λ s. text_of s ≡ check_text (legal_chart_of text.now)) }
 {
     match read_legal_chart(alloc, text) {
-        Ok(chart) => Ok(Saying::Done(chart_line(alloc, chart.chart())?)),
+        Ok(chart) => Ok(Saying::Legal(chart_line(alloc, chart.chart())?)),
         Err(ChartRefusal::Fault(fault)) => Ok(Saying::Faulty(fault_line(alloc, &fault)?)),
         Err(ChartRefusal::NoMemory) => Err(NoMemory),
     }

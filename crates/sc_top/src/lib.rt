@@ -1,8 +1,10 @@
-//! The host as a program: reads a script, runs it, and writes the report; or reads a chart, and says whether it is
-//! one.
+//! The host as a program: makes a journal; runs a script on the host that a journal holds, and writes the report; tells
+//! that host; or reads a chart, and says whether it is one.
 #![tactic(auto)]
 
 mod check;
+mod end;
+mod journal;
 mod program;
 mod report;
 mod run;

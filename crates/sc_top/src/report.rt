@@ -7,6 +7,7 @@ pub(crate) mod lines;
 pub(crate) mod replies;
 mod sessions;
 
+use crate::end::End;
 use crate::report::entries::put_entries;
 use crate::report::lines::put_counted;
 use crate::report::sessions::put_sessions;
@@ -24,9 +25,9 @@ pub(crate) fn report_of(
     host: &HostState<Compiled>,
     history: &[Entry],
     opened: u64,
-    end: &[u8],
+    end: End,
 ) -> Result<Bytes, NoMemory>
-    ensures { IfOk result (λ text. text ≡ report opened host.now.image history.now end.now) }
+    ensures { IfOk result (λ text. text ≡ report opened host.now.image history.now end) }
 {
     let mut out = TextWriter::new(alloc);
     put_counted(&mut out, b"open ", u128::from(opened))?;
@@ -35,7 +36,7 @@ pub(crate) fn report_of(
     put_sessions(&mut out, host)?;
     put_clock(&mut out, host)?;
     out.text("end ")?;
-    out.bytes(end)?;
+    out.text(end.word())?;
     out.end_line()?;
     Ok(out.into_bytes())
 }

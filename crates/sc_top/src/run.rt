@@ -1,112 +1,136 @@
-ghost use Rattle.std.specs.Prelude.{◌≡◌, ◌++◌, ◌<◌, ◌≤◌, ◌^◌, [], Some, List, IfOk, OnOk};
-ghost use Rattle.sc_core.specs.Cues.{ready};
-ghost use Rattle.sc_core.specs.Hosts.{empty_host};
+ghost use Rattle.std.specs.Prelude.{◌++◌, [], List, OnOk, IfErr};
 ghost use Rattle.sc_top.specs.Run.{Made, in_turn, of_client, of_clients};
-ghost use Rattle.sc_top.specs.Running.{HasRun};
+ghost use Rattle.sc_top.specs.Running.{HasEnded};
 
 use sc_base::Plain;
-use sc_core::HostState;
+use sc_book::{Book, CallFault};
+use sc_core::Closed;
+use sc_dev::Disk;
+use sc_law::Engine;
 use sc_script::Script;
-use sc_turn::Compiled;
-use sc_types::{Command, Entry, NoMemory, Sequence, Who};
+use sc_types::{Command, NoMemory, Sequence, Who};
 use std::alloc::Global;
 
-/// The most commands that a host takes; a run of more is larger than any memory.
-const COMMAND_LIMIT: u64 = 1 << 48;
-
-/// A run under way: the host, the history so far, and how many steps are left.
+/// A run under way: the book, and how many steps are left.
 #[derive(Drop)]
-pub struct Run {
-    pub host: HostState<Compiled>,
-    pub history: Sequence<Entry>,
-    pub left: u64,
+pub struct Run<'e, E: Engine, D: Disk> {
+    book: Book<'e, E, D>,
+    left: u64,
 }
 
-impl Run {
-    ghost use Rattle.sc_top.specs.Running.{Makes, Goes, HasStepped};
+impl<'e, E: Engine, D: Disk> Run<'e, E, D> {
+    ghost use Rattle.sc_top.specs.Running.{Goes, GoesOn, HasStepped, IsUnmade, Makes, Stops, run_of};
 
-    fn new(alloc: Global, budget: u64) -> Run
-        ensures image { result.host.image ≡ empty_host }
-        ensures history { result.history ≡ [] }
-        ensures left { result.left ≡ budget }
+    /// Makes a command.
+    fn make(&mut self, alloc: Global, who: Who, command: Command) -> Result<(), CallFault>
+        ensures ok { OnOk result (Makes (run_of self.old.book self.old.left)
+            (run_of self.new.book self.new.left) who command) }
+        ensures err { IfErr result (λ fault. IsUnmade D.tells D.may_leave D.may_have_left D.moment D.faults fault
+            (run_of self.old.book self.old.left) (run_of self.new.book self.new.left) command) }
+        ensures goes_on { GoesOn D.tells D.may_leave D.may_have_left D.moment D.faults D.identity self.old.book self.new.book }
     {
-        Run {
-            host: HostState::new(alloc),
-            history: Sequence::new(alloc),
-            left: budget,
-        }
-    }
-
-    /// Makes a command, and enters what the host answered.
-    fn make(&mut self, who: Who, command: Command) -> Result<(), NoMemory>
-        ensures { OnOk result (Makes self.old self.new who command) }
-    {
-        if self.host.commands() >= COMMAND_LIMIT {
-            return Err(NoMemory);
-        }
-        let mut prepared = self.host.prepare(&Compiled, &command)?;
-        self.host.install(&mut prepared);
-        self.history.push(Entry {
-            who,
-            command,
-            reply: prepared.reply,
-            logs: prepared.logs,
-            sent: prepared.sent,
-        })
+        self.book.call(alloc, who, command)?;
+        Ok(())
     }
 
     /// Lets the ready session that was started first step, until none is ready or no step is left.
-    fn step_all(&mut self) -> Result<(), NoMemory>
-        ensures goes { OnOk result ((cs : List Made) → Goes self.old self.new cs cs) }
-        ensures stepped { OnOk result (HasStepped self.new) }
+    fn step_all(&mut self, alloc: Global) -> Result<(), CallFault>
+        ensures goes { OnOk result ((cs : List Made) → Goes (run_of self.old.book self.old.left) (run_of self.new.book self.new.left) cs cs) }
+        ensures stepped { OnOk result (HasStepped (run_of self.new.book self.new.left)) }
+        ensures stops { IfErr result (λ fault. (cs : List Made) → Stops D.tells D.may_leave D.may_have_left D.moment D.faults fault
+            (run_of self.old.book self.old.left) (run_of self.new.book self.new.left) cs) }
+        ensures goes_on { GoesOn D.tells D.may_leave D.may_have_left D.moment D.faults D.identity self.old.book self.new.book }
     {
         while self.left > 0 {
-            let Some(session) = self.host.ready_session() else {
+            let Some(session) = self.book.host().ready_session() else {
                 return Ok(());
             };
             let session = session.copy()?;
             self.left -= 1;
-            self.make(Who::Worker, Command::Step { session })?;
+            self.make(alloc, Who::Worker, Command::Step { session })?;
         }
         Ok(())
     }
 
     /// Makes the commands of a client one after another, with the steps that are ready behind each.
-    fn make_all(&mut self, client: u32, commands: Sequence<Command>) -> Result<(), NoMemory>
-        requires stepped { HasStepped self.old }
-        ensures goes { OnOk result ((cs : List Made) → Goes self.old self.new (of_client client commands ++ cs) cs) }
-        ensures stepped { OnOk result (HasStepped self.new) }
+    fn make_all(
+        &mut self,
+        alloc: Global,
+        client: u32,
+        commands: Sequence<Command>,
+    ) -> Result<(), CallFault>
+        requires stepped { HasStepped (run_of self.old.book self.old.left) }
+        ensures goes { OnOk result ((cs : List Made) → Goes (run_of self.old.book self.old.left) (run_of self.new.book self.new.left) (of_client client commands ++ cs) cs) }
+        ensures stepped { OnOk result (HasStepped (run_of self.new.book self.new.left)) }
+        ensures stops { IfErr result (λ fault. (cs : List Made)
+            → Stops D.tells D.may_leave D.may_have_left D.moment D.faults fault
+            (run_of self.old.book self.old.left) (run_of self.new.book self.new.left) (of_client client commands ++ cs)) }
+        ensures goes_on { GoesOn D.tells D.may_leave D.may_have_left D.moment D.faults D.identity self.old.book self.new.book }
     {
         for command in commands.into_vec() {
-            self.make(Who::Client(client), command)?;
-            self.step_all()?;
+            self.make(alloc, Who::Client(client), command)?;
+            self.step_all(alloc)?;
         }
         Ok(())
     }
 
     /// Makes the commands of one client after another, which are numbered from 1.
-    fn make_clients(&mut self, clients: Sequence<Sequence<Command>>) -> Result<(), NoMemory>
-        requires stepped { HasStepped self.old }
-        ensures goes { OnOk result ((cs : List Made) → Goes self.old self.new (of_clients 1 clients ++ cs) cs) }
-        ensures stepped { OnOk result (HasStepped self.new) }
+    fn make_clients(
+        &mut self,
+        alloc: Global,
+        clients: Sequence<Sequence<Command>>,
+    ) -> Result<(), CallFault>
+        requires stepped { HasStepped (run_of self.old.book self.old.left) }
+        ensures goes { OnOk result ((cs : List Made) → Goes (run_of self.old.book self.old.left) (run_of self.new.book self.new.left) (of_clients 1 clients ++ cs) cs) }
+        ensures stepped { OnOk result (HasStepped (run_of self.new.book self.new.left)) }
+        ensures stops { IfErr result (λ fault. (cs : List Made)
+            → Stops D.tells D.may_leave D.may_have_left D.moment D.faults fault
+            (run_of self.old.book self.old.left) (run_of self.new.book self.new.left) (of_clients 1 clients ++ cs)) }
+        ensures goes_on { GoesOn D.tells D.may_leave D.may_have_left D.moment D.faults D.identity self.old.book self.new.book }
     {
         let mut client = 0u32;
         for commands in clients.into_vec() {
             client = client.checked_add(1).ok_or(NoMemory)?;
-            self.make_all(client, commands)?;
+            self.make_all(alloc, client, commands)?;
         }
         Ok(())
     }
+
+    /// Makes the commands of a script: those of the set-up, and then those of one client after another.
+    fn make_script(&mut self, alloc: Global, script: Script) -> Result<(), CallFault>
+        ensures goes { OnOk result (Goes (run_of self.old.book self.old.left) (run_of self.new.book self.new.left) (in_turn script) []) }
+        ensures stepped { OnOk result (HasStepped (run_of self.new.book self.new.left)) }
+        ensures stops { IfErr result (λ fault. Stops D.tells D.may_leave D.may_have_left D.moment D.faults fault
+            (run_of self.old.book self.old.left) (run_of self.new.book self.new.left) (in_turn script)) }
+        ensures goes_on { GoesOn D.tells D.may_leave D.may_have_left D.moment D.faults D.identity self.old.book self.new.book }
+    {
+        self.step_all(alloc)?;
+        self.make_all(alloc, 0, script.setup)?;
+        self.make_clients(alloc, script.clients)
+    }
 }
 
-/// Runs a script on one thread, with at most so many steps: the commands of the set-up, and then those of one client
-/// after another.
-pub(crate) fn run_script(alloc: Global, script: Script, budget: u64) -> Result<Run, NoMemory>
-    ensures { IfOk result (λ r. HasRun r budget (in_turn script)) }
+/// A run that has ended: what it leaves, and its fault where there was one.
+#[derive(Drop)]
+pub(crate) struct Ended<E: Engine, D: Disk> {
+    pub(crate) closed: Closed<E, D>,
+    pub(crate) fault: Option<CallFault>,
+}
+
+/// Runs a script on one thread, with at most so many steps, to its end or to the first fault.
+pub(crate) fn run_script<'e, E: Engine, D: Disk>(
+    alloc: Global,
+    book: Book<'e, E, D>,
+    script: Script,
+    budget: u64,
+) -> Ended<E, D>
+    ensures { HasEnded D.tells D.may_leave D.may_have_left D.moment D.faults D.identity book.entry budget (in_turn script) result.closed.host.image
+        result.closed.opened result.closed.history.entries result.closed.disk result.fault }
 {
-    let mut run = Run::new(alloc, budget);
-    run.step_all()?;
-    run.make_all(0, script.setup)?;
-    run.make_clients(script.clients)?;
-    Ok(run)
+    let mut run = Run { book, left: budget };
+    let fault = run.make_script(alloc, script).err();
+    Ended {
+        closed: run.book.finish(),
+        fault,
+    }
 }

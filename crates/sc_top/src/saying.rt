@@ -2,6 +2,7 @@ ghost use Rattle.std.specs.Prelude.{◌≡◌, ◌≢◌};
 ghost use Rattle.sc_top.specs.Sayings.{status_of, text_of};
 ghost use Rattle.sc_top.specs.Statuses.{code};
 
+use crate::end::End;
 use crate::status::Status;
 use sc_base::Bytes;
 
@@ -11,14 +12,22 @@ pub(crate) enum Saying {
     OtherWords,
     /// The source failed.
     ReadFault,
+    /// The disk failed, and nothing was run.
+    DiskFault,
+    /// A journal was made.
+    Created,
+    /// There was a journal.
+    Exists,
     /// The first fault of a script's text.
     BadScript(Bytes),
-    /// A report of a run after which no session is ready, or that a text is a chart.
-    Done(Bytes),
-    /// A report of a run whose steps are used up.
-    Spent(Bytes),
+    /// Why the disk holds no journal that a host can be made of.
+    BadJournal(Bytes),
+    /// That a text is a chart.
+    Legal(Bytes),
     /// The first fault of a chart's text.
     Faulty(Bytes),
+    /// A report.
+    Report(End, Bytes),
 }
 
 impl Saying {
@@ -29,10 +38,14 @@ impl Saying {
         match self {
             Saying::OtherWords => Status::OtherWords,
             Saying::ReadFault => Status::ReadFault,
+            Saying::DiskFault => Status::DiskFault,
+            Saying::Created => Status::Done,
+            Saying::Exists => Status::Exists,
             Saying::BadScript(_) => Status::BadScript,
-            Saying::Done(_) => Status::Done,
-            Saying::Spent(_) => Status::Budget,
+            Saying::BadJournal(_) => Status::BadJournal,
+            Saying::Legal(_) => Status::Done,
             Saying::Faulty(_) => Status::Faulty,
+            Saying::Report(end, _) => end.status(),
         }
     }
 
@@ -42,10 +55,14 @@ impl Saying {
         match self {
             Saying::OtherWords => b"words\n",
             Saying::ReadFault => b"read\n",
+            Saying::DiskFault => b"disk\n",
+            Saying::Created => b"created\n",
+            Saying::Exists => b"exists\n",
             Saying::BadScript(text) => text.slice(),
-            Saying::Done(text) => text.slice(),
-            Saying::Spent(text) => text.slice(),
+            Saying::BadJournal(text) => text.slice(),
+            Saying::Legal(text) => text.slice(),
             Saying::Faulty(text) => text.slice(),
+            Saying::Report(_, text) => text.slice(),
         }
     }
 }

@@ -15,10 +15,18 @@ pub enum Status {
     ReadFault,
     /// The sink failed, and has taken the first part of what was to be written.
     WriteFault,
+    /// The disk failed.
+    DiskFault,
     /// Nothing was written.
     OutOfMemory,
     /// The steps of a run were used up, and a session is ready.
     Budget,
+    /// The disk holds no journal that a host can be made of.
+    BadJournal,
+    /// The journal has no room for the next command.
+    Full,
+    /// There is a journal already.
+    Exists,
 }
 
 impl Status {
@@ -33,8 +41,12 @@ impl Status {
             Status::Faulty => 3,
             Status::ReadFault => 4,
             Status::WriteFault => 5,
+            Status::DiskFault => 6,
             Status::OutOfMemory => 7,
             Status::Budget => 8,
+            Status::BadJournal => 9,
+            Status::Full => 10,
+            Status::Exists => 11,
         }
     }
 }

@@ -12,8 +12,12 @@ pub const STEP_LIMIT: u64 = 1_000_000_000_000;
 /// What the words of a command line ask for.
 #[derive(Clone, Copy, Debug, PartialEq, Eq)]
 pub enum Asked {
+    /// A new journal.
+    Init,
     /// The run of a script, on one thread, with at most so many steps.
     Run(u64),
+    /// The host that the journal holds.
+    Show,
     /// Whether a text spells a legal chart.
     Check,
 }
@@ -23,7 +27,7 @@ pub(crate) fn read_words(words: &[String]) -> Option<Asked>
     ensures { result ≡ asked (map string_bytes words.now) }
 {
     match words {
-        [word] => as_check(word),
+        [word] => as_one(word),
         [word, option, number] => as_run(word, option, number),
         [word, option, number, other, budget] => {
             as_budgeted(word, option, number, other, budget)
@@ -32,13 +36,18 @@ pub(crate) fn read_words(words: &[String]) -> Option<Asked>
     }
 }
 
-fn as_check(word: &String) -> Option<Asked>
+fn as_one(word: &String) -> Option<Asked>
     ensures { result ≡ asked (string_bytes word.now ∷ []) }
 {
-    if word.as_str() != "check" {
-        return None;
+    if word.as_str() == "init" {
+        Some(Asked::Init)
+    } else if word.as_str() == "show" {
+        Some(Asked::Show)
+    } else if word.as_str() == "check" {
+        Some(Asked::Check)
+    } else {
+        None
     }
-    Some(Asked::Check)
 }
 
 fn is_run(word: &String, option: &String, number: &String) -> bool

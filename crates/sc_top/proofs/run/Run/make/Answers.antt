@@ -1,20 +1,13 @@
-use Rattle.sc_turn.proofs.Crossing.{plan_given_send, plan_given_sync}
+use Rattle.std.proofs.Common.{Err, ap}
+use Rattle.std.proofs.lemmas.Result.{err_from_is_err_and}
+use Rattle.sc_top.specs.Running.{run_of}
+use Rattle.sc_top.proofs.RunLemmas.{unmade_of}
 use Rattle.sc_top.proofs.run.Run.make.Goals as goal
 
-pub commands-requires-send-E-Plan : goal.commands-requires-send-E-Plan
-commands-requires-send-E-Plan c κs = plan_given_send _
-
-pub commands-requires-sync-E-Plan : goal.commands-requires-sync-E-Plan
-commands-requires-sync-E-Plan c κs = plan_given_sync _
-
-pub prepare-requires-send-E-Plan : goal.prepare-requires-send-E-Plan
-prepare-requires-send-E-Plan c κs = plan_given_send _
-
-pub prepare-requires-sync-E-Plan : goal.prepare-requires-sync-E-Plan
-prepare-requires-sync-E-Plan c κs = plan_given_sync _
-
-pub install-requires-send-E-Plan : goal.install-requires-send-E-Plan
-install-requires-send-E-Plan c κs = plan_given_send _
-
-pub install-requires-sync-E-Plan : goal.install-requires-sync-E-Plan
-install-requires-sync-E-Plan c κs = plan_given_sync _
+pub returns-in_err-call-clause-err : goal.returns-in_err-call-clause-err
+returns-in_err-call-clause-err g c =
+    let p = err_from_is_err_and c.from_residual.result c.from_residual.ensures.1 in
+    let why = c.in_err-call.ensures in
+    rw (p.1, p.2) (unmade_of g.D.Disk.tells g.D.Disk.may_leave g.D.Disk.may_have_left g.D.Disk.moment g.D.Disk.faults
+    c.in_err-call.field-0.0 c.args.who c.args.command (run_of c.args.self.now.book c.args.self.now.left)
+    (run_of c.call.new.self c.args.self.now.left) why.err why.doubts (λ e. why.disk (ap Err e)) (λ e. why.full (ap Err e)))

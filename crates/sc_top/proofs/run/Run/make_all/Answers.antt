@@ -1,22 +1,22 @@
-use Rattle.std.proofs.Common.{◌≡◌, List, ◌∷◌, ◌++◌, ap, subst}
+use Rattle.std.proofs.Common.{◌≡◌, List, ◌∷◌, ◌++◌, ap, subst, rules}
 use Rattle.std.specs.Vec.Iter.{into_iter_items}
+use Rattle.std.proofs.lemmas.Result.{err_from_is_err_and}
 use Rattle.sc_types.specs.declared.command.Command.{Command}
 use Rattle.sc_top.specs.Run.{Made, of_client}
-use Rattle.sc_top.specs.Running.{Goes}
-use Rattle.sc_top.proofs.RunLemmas.{goes_by_command, goes_further}
+use Rattle.sc_top.specs.Running.{Goes, run_of}
+use Rattle.sc_top.proofs.RunLemmas.{goes_by_command, goes_further, goes_nowhere, goes_on_further, goes_on_still, stops_by_command, stops_further}
 use Rattle.sc_top.proofs.run.Run.make_all.Goals as goal
 
 pub loop-command-preserved : goal.loop-command-preserved
-loop-command-preserved c =
+loop-command-preserved g c =
     let n = c.args.client in
-    let old = c.args.self.now in
-    let cur = c.loop-command.self in
-    let mid = c.make.new.self in
-    let new = c.step_all.new.self in
+    let old = run_of c.args.self.now.book c.args.self.now.left in
+    let cur = run_of c.loop-command.self.book c.loop-command.self.left in
+    let mid = run_of c.make.new.self.book c.make.new.self.left in
+    let new = run_of c.step_all.new.self.book c.step_all.new.self.left in
     let at = c.loop-command.invariant in
     let first = c.in-Some.command in
     let rest = into_iter_items c.next.new.self in
-    let m = c.in_ok-make.ensures in
     let stepped = c.in_ok-step_all.ensures in
     let all : List Made → List Made = λ cs. of_client n c.args.commands ++ cs in
     let left : List Made → List Made = λ cs. of_client n rest ++ cs in
@@ -27,8 +27,84 @@ loop-command-preserved c =
     λ cs. subst (Goes old cur (all cs)) (here cs) (at.goes cs) in
     let made : (cs : List Made) → Goes old mid (all cs) (left cs) =
     λ cs. goes_further old cur mid (all cs) ((n, first) ∷ left cs) (left cs) (before cs)
-    (goes_by_command cur mid n first (left cs) at.stepped m) in
+    (goes_by_command cur mid n first (left cs) at.stepped c.in_ok-make.ensures.ok) in
+    let T = g.D.Disk.tells in
+    let L = g.D.Disk.may_leave in
+    let S = g.D.Disk.may_have_left in
+    let M = g.D.Disk.moment in
+    let F = g.D.Disk.faults in
+    let I = g.D.Disk.identity in
     record {
       goes = λ cs. goes_further old mid new (all cs) (left cs) (left cs) (made cs) (stepped.goes (left cs));
       stepped = stepped.stepped;
+      on = goes_on_further T L S M F I old.book mid.book new.book
+          (goes_on_further T L S M F I old.book cur.book mid.book at.on c.in_ok-make.ensures.goes_on) stepped.goes_on;
+    }
+
+pub returns-in_err-make-clause-stops : goal.returns-in_err-make-clause-stops
+returns-in_err-make-clause-stops g c =
+    let p = err_from_is_err_and c.from_residual.result c.from_residual.ensures.1 in
+    let n = c.args.client in
+    let old = run_of c.args.self.now.book c.args.self.now.left in
+    let cur = run_of c.loop-command.self.book c.loop-command.self.left in
+    let new = run_of c.make.new.self.book c.make.new.self.left in
+    let at = c.loop-command.invariant in
+    let first = c.in-Some.command in
+    let rest = into_iter_items c.next.new.self in
+    let all : List Made → List Made = λ cs. of_client n c.args.commands ++ cs in
+    let left : List Made → List Made = λ cs. of_client n rest ++ cs in
+    let here : (cs : List Made)
+    → of_client n (into_iter_items c.loop-command.command-iterator) ++ cs ≡ (n, first) ∷ left cs =
+    λ cs. ap (λ (xs : List Command). of_client n xs ++ cs) c.in-Some.ensures.steps.0 in
+    let T = g.D.Disk.tells in
+    let L = g.D.Disk.may_leave in
+    let S = g.D.Disk.may_have_left in
+    let M = g.D.Disk.moment in
+    let F = g.D.Disk.faults in
+    let fault = c.in_err-make.field-0.0 in
+    rw (p.1, p.2) (λ cs. stops_further T L S M F g.D.Disk.identity fault old cur new (all cs) ((n, first) ∷ left cs)
+    (subst (Goes old cur (all cs)) (here cs) (at.goes cs)) at.on
+    (stops_by_command T L S M F fault cur new n first (left cs) at.stepped c.in_err-make.ensures.err))
+
+pub returns-in_err-step_all-clause-stops : goal.returns-in_err-step_all-clause-stops
+returns-in_err-step_all-clause-stops g c =
+    let p = err_from_is_err_and c.from_residual-in_err-step_all.result c.from_residual-in_err-step_all.ensures.1 in
+    let n = c.args.client in
+    let old = run_of c.args.self.now.book c.args.self.now.left in
+    let cur = run_of c.loop-command.self.book c.loop-command.self.left in
+    let mid = run_of c.make.new.self.book c.make.new.self.left in
+    let new = run_of c.step_all.new.self.book c.step_all.new.self.left in
+    let at = c.loop-command.invariant in
+    let first = c.in-Some.command in
+    let rest = into_iter_items c.next.new.self in
+    let all : List Made → List Made = λ cs. of_client n c.args.commands ++ cs in
+    let left : List Made → List Made = λ cs. of_client n rest ++ cs in
+    let here : (cs : List Made)
+    → of_client n (into_iter_items c.loop-command.command-iterator) ++ cs ≡ (n, first) ∷ left cs =
+    λ cs. ap (λ (xs : List Command). of_client n xs ++ cs) c.in-Some.ensures.steps.0 in
+    let made : (cs : List Made) → Goes old mid (all cs) (left cs) =
+    λ cs. goes_further old cur mid (all cs) ((n, first) ∷ left cs) (left cs)
+    (subst (Goes old cur (all cs)) (here cs) (at.goes cs))
+    (goes_by_command cur mid n first (left cs) at.stepped c.in_ok-make.ensures.ok) in
+    let T = g.D.Disk.tells in
+    let L = g.D.Disk.may_leave in
+    let S = g.D.Disk.may_have_left in
+    let M = g.D.Disk.moment in
+    let F = g.D.Disk.faults in
+    let I = g.D.Disk.identity in
+    rw (p.1, p.2) (λ cs. stops_further T L S M F I c.in_err-step_all.field-0.0 old mid new (all cs) (left cs) (made cs)
+    (goes_on_further T L S M F I old.book cur.book mid.book at.on c.in_ok-make.ensures.goes_on)
+    (c.in_err-step_all.ensures.stops (left cs)))
+
+pub loop-command-init : goal.loop-command-init
+loop-command-init g c =
+    let old = run_of c.args.self.now.book c.args.self.now.left in
+    let n = c.args.client in
+    let all : c.args.commands ≡ into_iter_items c.into_iter-command-iterator.result = search rules in
+    record {
+      goes = λ cs. subst (λ (xs : List Command). Goes old old (of_client n c.args.commands ++ cs) (of_client n xs ++ cs)) all
+          (goes_nowhere old (of_client n c.args.commands ++ cs));
+      stepped = c.requires.stepped;
+      on = goes_on_still g.D.Disk.tells g.D.Disk.may_leave g.D.Disk.may_have_left g.D.Disk.moment g.D.Disk.faults
+          g.D.Disk.identity c.args.self.now.book;
     }

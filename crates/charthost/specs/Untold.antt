@@ -1,0 +1,13 @@
+-- A disk that tells nothing of what it holds: a stop may leave any bytes. This host's own rule.
+use Rattle.std.specs.Prelude.{ℕ, []}
+use Rattle.sc_dev.specs.Disks.{DiskOf, Fits}
+
+-- what stands for its bytes, which no clause speaks of
+abbrev pub untold : DiskOf
+untold = record { journal = []; slot_a = []; slot_b = [] }
+
+abbrev pub MayLeave : DiskOf → Type 0
+MayLeave c = Fits c
+
+abbrev pub MayHaveLeft : ℕ → DiskOf → Type 0
+MayHaveLeft t c = Fits c

@@ -1,0 +1,75 @@
+use Rattle.sc_top.proofs.CrossingLemmas.{second_send, second_sync}
+use Rattle.std.proofs.Common.{◌≡◌, ◌∙◌, ℕ, IfOk, OnErr, refl, sym, ap, subst, rules, MutBor}
+use Rattle.sc_dev.specs.Disks.{DiskOf}
+use Rattle.sc_top.specs.Journals.{disk_known}
+use Rattle.sc_top.specs.Promise.{Shows, not_shown}
+use Rattle.sc_top.specs.Sayings.{status_of, text_of}
+use Rattle.sc_top.proofs.JournalLemmas.{fails_of, if_ok_map, shows_of, told_both}
+use Rattle.sc_top.proofs.journal.show.Goals as goal
+
+pub returns-in-Ok-clause-ok : goal.returns-in-Ok-clause-ok
+returns-in-Ok-clause-ok g c =
+    let Lent = MutBor g.row.D.Denot in
+    let laws = g.met.D.Disk g.world.𝓛 g.world.𝓜 g.world.𝓡 ((λ s x. x), (λ x. x), (λ x. x), λ x. x) in
+    let T = g.D.Disk.tells in
+    let R : Lent → DiskOf = λ d. g.D.Disk.reads d.now in
+    let L : Lent → DiskOf → Type 0 = λ d. g.D.Disk.may_leave d.now in
+    let S : Lent → ℕ → DiskOf → Type 0 = λ d. g.D.Disk.may_have_left d.now in
+    let M : Lent → ℕ = λ d. g.D.Disk.moment d.now in
+    let F : Lent → ℕ = λ d. g.D.Disk.faults d.now in
+    let I : Lent → ℕ = λ d. d.ghost_name in
+    let standing : (d : Lent) → L d (R d) = λ d. laws.stands d.now in
+    let b = c.in-Ok.book in
+    let done = c.finish-closed in
+    let named = ap I (c.into_disk.ensures ∙ done.ensures.disk) ∙ c.in-Ok.ensures.same in
+    let told = if_ok_map c.report-said.result _ (λ s. Shows (disk_known T R L F c.args.disk b.journal.disk) (status_of s)
+    (text_of s)) (λ s is. shows_of T R L S M F I standing c.args.disk b c.in-Ok.ensures.opened c.in-Ok.ensures.stands
+    done.result.opened done.result.host.image done.result.history.entries (sym done.ensures.opened) (sym done.ensures.host)
+    (sym done.ensures.history) (status_of s) (text_of s) is.0 is.1)
+    (told_both c.report-said.result _ _ c.report-said.ensures.status c.report-said.ensures.text) in
+    let P : g.row.D.Denot → Type 0 = λ x. IfOk c.report-said.result (λ s. Shows (disk_known T g.D.Disk.reads
+    g.D.Disk.may_leave g.D.Disk.faults c.args.disk.now x) (status_of s) (text_of s)) in
+    let moved : P c.into_disk.result.now =
+    subst (λ (x : Lent). P x.now) (sym (c.into_disk.ensures ∙ done.ensures.disk)) told in
+    subst P (search (rules, named)) moved
+
+pub returns-in-Err-clause-ok : goal.returns-in-Err-clause-ok
+returns-in-Err-clause-ok g c =
+    let Lent = MutBor g.row.D.Denot in
+    let laws = g.met.D.Disk g.world.𝓛 g.world.𝓜 g.world.𝓡 ((λ s x. x), (λ x. x), (λ x. x), λ x. x) in
+    let T = g.D.Disk.tells in
+    let R : Lent → DiskOf = λ d. g.D.Disk.reads d.now in
+    let L : Lent → DiskOf → Type 0 = λ d. g.D.Disk.may_leave d.now in
+    let S : Lent → ℕ → DiskOf → Type 0 = λ d. g.D.Disk.may_have_left d.now in
+    let M : Lent → ℕ = λ d. g.D.Disk.moment d.now in
+    let F : Lent → ℕ = λ d. g.D.Disk.faults d.now in
+    let I : Lent → ℕ = λ d. d.ghost_name in
+    let standing : (d : Lent) → L d (R d) = λ d. laws.stands d.now in
+    let f = c.in-Err.failed in
+    let why = c.in-Err.ensures in
+    let named = ap I c.into_disk-in-Err.ensures ∙ why.same in
+    let told = if_ok_map c.not_opened.result _ (λ s. Shows (disk_known T R L F c.args.disk f.disk) (status_of s) (text_of s))
+    (λ s is. not_shown (status_of s) (text_of s) (fails_of (disk_known T R L F c.args.disk f.disk) f.fault (status_of s)
+    (text_of s) why.disk why.damaged why.bad is)) c.not_opened.ensures in
+    let P : g.row.D.Denot → Type 0 = λ x. IfOk c.not_opened.result (λ s. Shows (disk_known T g.D.Disk.reads
+    g.D.Disk.may_leave g.D.Disk.faults c.args.disk.now x) (status_of s) (text_of s)) in
+    let moved : P c.into_disk-in-Err.result.now = subst (λ (x : Lent). P x.now) (sym c.into_disk-in-Err.ensures) told in
+    subst P (search (rules, named)) moved
+
+pub open-requires-send-E-Plan : goal.open-requires-send-E-Plan
+open-requires-send-E-Plan g c κs = λ lives. second_send _
+
+pub open-requires-sync-E-Plan : goal.open-requires-sync-E-Plan
+open-requires-sync-E-Plan g c κs = λ lives. second_sync _
+
+pub finish-closed-requires-send-E-Plan : goal.finish-closed-requires-send-E-Plan
+finish-closed-requires-send-E-Plan g c κs = λ lives. second_send _
+
+pub finish-closed-requires-sync-E-Plan : goal.finish-closed-requires-sync-E-Plan
+finish-closed-requires-sync-E-Plan g c κs = λ lives. second_sync _
+
+pub into_disk-requires-send-E-Plan : goal.into_disk-requires-send-E-Plan
+into_disk-requires-send-E-Plan g c κs = λ lives. second_send _
+
+pub into_disk-requires-sync-E-Plan : goal.into_disk-requires-sync-E-Plan
+into_disk-requires-sync-E-Plan g c κs = λ lives. second_sync _
