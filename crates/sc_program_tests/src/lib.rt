@@ -1,5 +1,5 @@
 //! Tests of the devices and of the program as a whole: worked scripts and charts with what is written of them, byte for
-//! byte, texts that are no scripts, and devices that fail in mid-stream.
+//! byte, texts that are no scripts, devices that fail in mid-stream, and what stops of the machine leave.
 #![tactic(auto)]
 
 #[cfg(test)]
@@ -9,10 +9,16 @@ mod devices;
 #[cfg(test)]
 mod faults;
 #[cfg(test)]
+mod journals;
+#[cfg(test)]
 mod program;
 #[cfg(test)]
 mod refusals;
 #[cfg(test)]
 mod reports;
+#[cfg(test)]
+mod rows;
+#[cfg(test)]
+mod stops;
 #[cfg(test)]
 mod worked;

@@ -25,9 +25,20 @@ impl Outcome {
 /// Calls the program with the words of a command line, over devices in memory that never fail and a journal that was just
 /// created.
 pub fn call(alloc: Global, line: &str, script: &[u8]) -> Result<Outcome, NoMemory> {
+    let mut disk = created(alloc, &[])?;
+    call_on(alloc, line, script, &mut disk)
+}
+
+/// The same on a disk.
+pub fn call_on(
+    alloc: Global,
+    line: &str,
+    script: &[u8],
+    disk: &mut MemDisk,
+) -> Result<Outcome, NoMemory> {
     let mut source = MemSource::new(alloc, script, 1000, &[])?;
     let mut sink = MemSink::new(alloc, 200_000, 1000, &[])?;
-    let status = call_over(alloc, line, &mut source, &mut sink)?;
+    let status = call_with(alloc, line, &mut source, &mut sink, disk)?;
     Ok(Outcome { status, sink })
 }
 
@@ -39,20 +50,24 @@ pub fn call_over<S: Source, K: Sink>(
     source: &mut S,
     sink: &mut K,
 ) -> Result<u8, NoMemory> {
-    let mut disk = MemDisk::new(alloc, ROOM, 10_000, 4 * ROOM, &[])?;
-    create(alloc, &mut disk)?;
+    let mut disk = created(alloc, &[])?;
     call_with(alloc, line, source, sink, &mut disk)
 }
 
-/// Makes a journal on a disk.
-fn create(alloc: Global, disk: &mut MemDisk) -> Result<(), NoMemory> {
-    let mut source = MemSource::new(alloc, b"", 1, &[])?;
-    let mut sink = MemSink::new(alloc, 100, 100, &[])?;
-    call_with(alloc, "init", &mut source, &mut sink, disk)?;
-    Ok(())
+/// A disk whose calls of these numbers fail, counted from 1, and on which nothing was made yet.
+pub fn empty(alloc: Global, failing: &[u64]) -> Result<MemDisk, NoMemory> {
+    MemDisk::new(alloc, ROOM, 10_000, 4 * ROOM, failing)
 }
 
-fn call_with<S: Source, K: Sink>(
+/// A disk with a journal that was just created, which took the first 5 calls.
+pub fn created(alloc: Global, failing: &[u64]) -> Result<MemDisk, NoMemory> {
+    let mut disk = empty(alloc, failing)?;
+    call_on(alloc, "init", b"", &mut disk)?;
+    Ok(disk)
+}
+
+/// Calls the program with the words of a command line over these devices, and gives its status.
+pub fn call_with<S: Source, K: Sink>(
     alloc: Global,
     line: &str,
     source: &mut S,

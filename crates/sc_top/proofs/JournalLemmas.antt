@@ -18,7 +18,7 @@ use Rattle.sc_core.specs.Histories.{IsLegal, replay}
 use Rattle.sc_core.specs.Hosts.{empty_host}
 use Rattle.sc_core.proofs.AcceptedLemmas.{accepted_more, after_append}
 use Rattle.sc_dev.specs.Causes.{Rose}
-use Rattle.sc_dev.specs.Disks.{DiskOf}
+use Rattle.sc_dev.specs.Disks.{DiskOf, Within}
 use Rattle.sc_journal.specs.Journals.{IsFull, StandsAt}
 use Rattle.sc_journal.specs.Texts.{Holds, HoldsWith}
 use Rattle.sc_journal.proofs.Gates.{with-either}
@@ -336,11 +336,12 @@ module _ {D : Type 0} (tells : Type 0) (reads : D → DiskOf) (leaves : D → Di
   -- ---- a journal that is shown
 
   pub shows_of : (start : D) (b : BookOf D) (o : IsOpened tells leaves left moment b)
+      → Within (leaves start) (leaves b.journal.disk)
       → (tells → (n : ℕ) (g : HostImage) → StandsFor (reads start) n g → (b.opened ≡ n) × (b.host ≡ g))
       → (n : ℕ) (g : HostImage) (es : List Entry) → b.opened ≡ n → b.host ≡ g → b.history ≡ es
       → (status : Status) (bytes : List ℕ) → status ≡ done.Done → bytes ≡ report n g es end.Shown
       → Shows (Known start b.journal.disk) status bytes
-  shows_of start b o stood n g es is_opened is_host is_history status bytes is_done is_report =
+  shows_of start b o within stood n g es is_opened is_host is_history status bytes is_done is_report =
       let none = o.history in
       let none_more : length o.past + 0 ≡ length o.past = omega arith in
       let stored : tells → IsStored (Known start b.journal.disk) (length o.past) (opening o.past) =
@@ -358,7 +359,7 @@ module _ {D : Type 0} (tells : Type 0) (reads : D → DiskOf) (leaves : D → Di
         past = o.past;
         accepted = o.book.past_accepted;
         stood = λ told m x is. (sym o.book.opened ∙ (stood told m x is).0, sym host ∙ (stood told m x is).1);
-      }) stored))
+      }) (λ told. within) stored))
 
   -- a journal that was made
   pub made_of : (old new : D) → ((c : DiskOf) → leaves new c → Holds first_head [] c.journal)

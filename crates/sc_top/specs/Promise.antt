@@ -45,15 +45,16 @@ pub record Reports (k : DiskKnown) (script : Script) (budget : ℕ) (end : End) 
   pub ends : Ends k opened.past script budget history end
   pub is : bytes ≡ report (length opened.past) (host_after opened.past history) history end
 
--- of a script: it was run on the journal's host, or there is none
+-- of a script: it was run on the journal's host, or there is none, and nothing was written
 pub data Runs (k : DiskKnown) (script : Script) (budget : ℕ) : Status → List ℕ → Type 0 where
-  not_run : (status : Status) (bytes : List ℕ) → FailsToOpen k status bytes → Runs k script budget status bytes
+  not_run : (status : Status) (bytes : List ℕ) → IsUnwritten k → FailsToOpen k status bytes
+      → Runs k script budget status bytes
   ran : (end : End) (bytes : List ℕ) → Reports k script budget end bytes → Runs k script budget (end_status end) bytes
 
--- of `show`: the journal's host, or why there is none
+-- of `show`: the journal's host, or why there is none; nothing was written
 pub data Shows (k : DiskKnown) : Status → List ℕ → Type 0 where
-  not_shown : (status : Status) (bytes : List ℕ) → FailsToOpen k status bytes → Shows k status bytes
-  shown : (o : Opening k) → (k.told → IsStored k (length o.past) (opening o.past))
+  not_shown : (status : Status) (bytes : List ℕ) → IsUnwritten k → FailsToOpen k status bytes → Shows k status bytes
+  shown : (o : Opening k) → IsUnwritten k → (k.told → IsStored k (length o.past) (opening o.past))
       → Shows k status.Done (report (length o.past) (opening o.past) [] end.Shown)
 
 -- what is known of the devices before and after a call: what the source had, where that is told; whether its count of
@@ -70,9 +71,9 @@ known source read_failed disk = record { source = source; read_failed = read_fai
 abbrev pub IsRead : Option Asked → Option (List ℕ) → List ℕ → Type 0
 IsRead asked source text = IfSome source (λ all. text ≡ take (most_read asked) all)
 
--- of a text that should spell a script
+-- of a text that should spell a script; where it spells none, nothing was written
 pub data SaysOfScript (k : DiskKnown) (budget : ℕ) : Spelled → Status → List ℕ → Type 0 where
-  no_script : (fault : ScriptFault)
+  no_script : (fault : ScriptFault) → IsUnwritten k
       → SaysOfScript k budget (Err fault) status.BadScript (line (codes "script " ++ script_fault_text fault))
   spelled : (script : Script) (status : Status) (bytes : List ℕ) → Runs k script budget status bytes
       → SaysOfScript k budget (Ok script) status bytes
@@ -90,7 +91,8 @@ pub data Says (asked : Option Asked) (k : Known) : Status → List ℕ → Type 
   other_words : asked ≡ None → Says asked k status.OtherWords (codes "words\n")
   initialised : (status : Status) (bytes : List ℕ) → asked ≡ Some Init → Creates k.disk status bytes
       → Says asked k status bytes
-  unread_script : (budget : ℕ) → asked ≡ Some (Run budget) → k.read_failed → Says asked k status.ReadFault (codes "read\n")
+  unread_script : (budget : ℕ) → asked ≡ Some (Run budget) → k.read_failed → IsUnwritten k.disk
+      → Says asked k status.ReadFault (codes "read\n")
   run : (budget : ℕ) (text : List ℕ) (status : Status) (bytes : List ℕ) → asked ≡ Some (Run budget)
       → IsRead asked k.source text → SaysOfScript k.disk budget (script_of text) status bytes → Says asked k status bytes
   tells : (status : Status) (bytes : List ℕ) → asked ≡ Some Show → Shows k.disk status bytes → Says asked k status bytes

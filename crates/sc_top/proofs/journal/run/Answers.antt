@@ -74,7 +74,7 @@ returns-in-Err-clause-ok g c =
     let why = c.in-Err.ensures in
     let named = ap I c.into_disk-in-Err.ensures ∙ why.same in
     let told = if_ok_map c.not_opened.result _ (λ s. Runs (disk_known T R L F c.args.disk f.disk) c.args.script c.args.budget
-    (status_of s) (text_of s)) (λ s is. not_run (status_of s) (text_of s) (fails_of (disk_known T R L F c.args.disk f.disk)
+    (status_of s) (text_of s)) (λ s is. not_run (status_of s) (text_of s) (λ told. why.images) (fails_of (disk_known T R L F c.args.disk f.disk)
     f.fault (status_of s) (text_of s) why.disk why.damaged why.bad is)) c.not_opened.ensures in
     let P : g.row.D.Denot → Type 0 = λ x. IfOk c.not_opened.result (λ s. Runs (disk_known T g.D.Disk.reads g.D.Disk.may_leave
     g.D.Disk.faults c.args.disk.now x) c.args.script c.args.budget (status_of s) (text_of s)) in

@@ -23,7 +23,7 @@ returns-in-Ok-clause-ok g c =
     let done = c.finish-closed in
     let named = ap I (c.into_disk.ensures ∙ done.ensures.disk) ∙ c.in-Ok.ensures.same in
     let told = if_ok_map c.report-said.result _ (λ s. Shows (disk_known T R L F c.args.disk b.journal.disk) (status_of s)
-    (text_of s)) (λ s is. shows_of T R L S M F I standing c.args.disk b c.in-Ok.ensures.opened c.in-Ok.ensures.stands
+    (text_of s)) (λ s is. shows_of T R L S M F I standing c.args.disk b c.in-Ok.ensures.opened c.in-Ok.ensures.images c.in-Ok.ensures.stands
     done.result.opened done.result.host.image done.result.history.entries (sym done.ensures.opened) (sym done.ensures.host)
     (sym done.ensures.history) (status_of s) (text_of s) is.0 is.1)
     (told_both c.report-said.result _ _ c.report-said.ensures.status c.report-said.ensures.text) in
@@ -49,7 +49,7 @@ returns-in-Err-clause-ok g c =
     let why = c.in-Err.ensures in
     let named = ap I c.into_disk-in-Err.ensures ∙ why.same in
     let told = if_ok_map c.not_opened.result _ (λ s. Shows (disk_known T R L F c.args.disk f.disk) (status_of s) (text_of s))
-    (λ s is. not_shown (status_of s) (text_of s) (fails_of (disk_known T R L F c.args.disk f.disk) f.fault (status_of s)
+    (λ s is. not_shown (status_of s) (text_of s) (λ told. why.images) (fails_of (disk_known T R L F c.args.disk f.disk) f.fault (status_of s)
     (text_of s) why.disk why.damaged why.bad is)) c.not_opened.ensures in
     let P : g.row.D.Denot → Type 0 = λ x. IfOk c.not_opened.result (λ s. Shows (disk_known T g.D.Disk.reads
     g.D.Disk.may_leave g.D.Disk.faults c.args.disk.now x) (status_of s) (text_of s)) in

@@ -22,7 +22,7 @@ returns-in-Ok-clause-left g c =
 pub returns-in-Err-Fault-clause-says : goal.returns-in-Err-Fault-clause-says
 returns-in-Err-Fault-clause-says g c =
     let rose : Rose (g.S.Source.faults c.args.source.now) (g.S.Source.faults c.read_up_to.new.source) = search rules in
-    unread_script c.args.budget refl rose
+    unread_script c.args.budget refl rose (λ told image may. may)
 
 pub returns-in-Err-NoMemory-clause-left : goal.returns-in-Err-NoMemory-clause-left
 returns-in-Err-NoMemory-clause-left g c = unwritten (λ told image may. may)

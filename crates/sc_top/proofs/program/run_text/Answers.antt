@@ -38,4 +38,4 @@ returns-in_ok-script_fault_line-in-Err-Fault-clause-ok g c =
     let is_said = sym c.in_ok-script_fault_line-in-Err-Fault.ensures in
     let spelled : script_of text ≡ Err fault = c.in-Err-Fault.ensures.fault fault (cc) in
     subst (λ t. SaysOfScript k budget (script_of text) BadScript t) is_said
-    (subst (λ s. SaysOfScript k budget s BadScript said) (sym spelled) (no_script fault))
+    (subst (λ s. SaysOfScript k budget s BadScript said) (sym spelled) (no_script fault (λ told image may. may)))

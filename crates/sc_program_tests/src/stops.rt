@@ -1,0 +1,112 @@
+ghost use Rattle.std.specs.Prelude.{◌<◌, length};
+
+// What a run leaves where a call of the disk fails, and where the machine stops then.
+use crate::program::{RUN, call_on, created};
+use crate::rows::{CUT_CHILD, ONE_LOG, ORDER, Row, SENDS};
+use sc_dev::MemDisk;
+use sc_types::NoMemory;
+use std::alloc::Global;
+use std::process::Abort;
+use std::test::Fail;
+
+/// An entry behind its open gate, and the closed gate behind it. A stop may leave it of bytes that were not synced.
+const ENTRY: [u8; 15] = [1, 0, 0, 0, 9, 4, 0, 0, 0, 0, 0, 0, 0, 5, 0];
+
+/// The first call of a run, behind those of `init`.
+const FIRST_CALL: u64 = 6;
+
+/// How many calls open a journal.
+const OPENING_CALLS: u64 = 2;
+
+/// A run whose disk failed at one call: what it had acknowledged until then, and the disk.
+#[derive(Drop)]
+struct Stopped {
+    status: u8,
+    acknowledged: usize,
+    disk: MemDisk,
+}
+
+fn run_until(alloc: Global, row: &Row, failing: u64) -> Result<Stopped, NoMemory> {
+    let mut disk = created(alloc, &[failing])?;
+    let outcome = call_on(alloc, RUN, row.script.as_bytes(), &mut disk)?;
+    Ok(Stopped {
+        status: outcome.status,
+        acknowledged: entries(outcome.written()),
+        disk,
+    })
+}
+
+/// How many entries a report has. No command of these scripts is refused.
+fn entries(report: &[u8]) -> usize {
+    report
+        .windows(3)
+        .filter(|piece| *piece == b"\n= ".as_slice())
+        .count()
+}
+
+/// Whether `show` tells on a disk what was acknowledged, or that and one command more.
+fn is_told(
+    alloc: Global,
+    row: &Row,
+    acknowledged: usize,
+    disk: &mut MemDisk,
+) -> Result<bool, NoMemory> {
+    let outcome = call_on(alloc, "show", b"", disk)?;
+    let mut may_be_shown = row.shows.iter().skip(acknowledged).take(2);
+    Ok(outcome.status == 0 && may_be_shown.any(|show| show.as_bytes() == outcome.written()))
+}
+
+/// Whether it tells so where the machine stopped and these bytes are there.
+fn is_told_after_stop(alloc: Global, row: &Row, run: &Stopped, fill: &[u8]) -> Result<bool, NoMemory>
+    requires { 0 < length fill.now }
+{
+    let mut left = run.disk.crash(fill, 1000)?;
+    is_told(alloc, row, run.acknowledged, &mut left)
+}
+
+/// A run whose disk fails at one call. What is there then, and what each stop leaves of it, holds every command that was
+/// acknowledged.
+fn check_call(rt: &impl Abort, alloc: Global, row: &Row, failing: u64) -> Result<(), Fail> {
+    let mut run = run_until(alloc, row, failing)?;
+    assert_eq!(rt; run.status, 6, "call {failing}");
+    for gate in [0, 1] {
+        let is_told = is_told_after_stop(alloc, row, &run, &[gate])?;
+        assert!(rt; is_told, "a stop after call {failing}, gates {gate}");
+    }
+    let is_prefix = is_told_after_stop(alloc, row, &run, &ENTRY)?;
+    assert!(rt; is_prefix, "a stop after call {failing}, an entry");
+    let goes_on = is_told(alloc, row, run.acknowledged, &mut run.disk)?;
+    assert!(rt; goes_on, "call {failing} without a stop");
+    Ok(())
+}
+
+/// So at each call of a run of so many commands, which ends well where a later call fails.
+fn check(rt: &impl Abort, alloc: Global, row: &Row, commands: u32) -> Result<(), Fail> {
+    let end = FIRST_CALL + OPENING_CALLS + 4 * u64::from(commands);
+    for failing in FIRST_CALL..end {
+        check_call(rt, alloc, row, failing)?;
+    }
+    let whole = run_until(alloc, row, end)?;
+    assert_eq!(rt; whole.status, 0);
+    Ok(())
+}
+
+#[test]
+fn stops_of_one_log(rt: HostRuntime) -> Result<(), Fail> {
+    check(&rt, rt.alloc(), &ONE_LOG, 3)
+}
+
+#[test]
+fn stops_of_sends(rt: HostRuntime) -> Result<(), Fail> {
+    check(&rt, rt.alloc(), &SENDS, 7)
+}
+
+#[test]
+fn stops_of_a_cut_child(rt: HostRuntime) -> Result<(), Fail> {
+    check(&rt, rt.alloc(), &CUT_CHILD, 7)
+}
+
+#[test]
+fn stops_of_an_order(rt: HostRuntime) -> Result<(), Fail> {
+    check(&rt, rt.alloc(), &ORDER, 16)
+}
