@@ -1,5 +1,6 @@
 -- How the bodies of a journal become a host, one after another.
-use Rattle.std.proofs.Common.{◌≡◌, ◌≢◌, ◌∙◌, ℕ, suc, ◌+◌, ◌-◌, ◌^◌, ◌<◌, ◌≤◌, true, false, Option, None, Result, Ok, Err, IfOk, IfErr, List, [], ◌∷◌, ◌++◌, length, take, drop, get_or, refl, sym, ap, subst, arith, length-take-le, take-suc, take-append-drop, drop-cons}
+use Rattle.std.proofs.Common.{◌≡◌, ◌≢◌, ◌∙◌, ℕ, suc, ◌+◌, ◌-◌, ◌^◌, ◌<◌, ◌≤◌, true, false, Option, None, Result, Ok, Err, IfOk, IfErr, List, [], ◌∷◌, ◌++◌, length, drop, refl, sym, ap, subst, arith, append_assoc, length-append}
+use Rattle.std.proofs.lemmas.List.{append-nil}
 use Rattle.std.specs.Result.{MatchResult}
 use Rattle.sc_book.specs.Images.{Spell, StandsFor}
 use Rattle.sc_book.specs.Openings.{HasOtherFirst, IsBadAt, IsFirstBad, IsOpened, IsRedone, IsReplayed, NamesNoPlace}
@@ -47,38 +48,60 @@ replayed_counts bodies h r =
     let same : h.commands ≡ (after empty_host r.commands).commands = ap (λ (g : HostImage). g.commands) r.host in
     omega (arith, same, after_counts empty_host r.commands r.accepted, length_spell bodies r.commands r.spell)
 
+-- Of some bodies these are left, and this is the host after those before them; the next has this number.
+pub record IsReplaying (bodies left : List (List ℕ)) (number : ℕ) (h : HostImage) : Type 0 where
+  pub made : List (List ℕ)
+  pub whole : bodies ≡ made ++ left
+  pub replayed : IsReplayed made h
+  pub counted : number ≡ length made + 1
+
 -- the next body
-pub redone_more : (bodies : List (List ℕ)) (i : ℕ) (g h : HostImage) (body : List ℕ) → i < length bodies
-    → get_or bodies i [] ≡ body → IsReplayed (take i bodies) g → IsRedone g body h → IsReplayed (take (i + 1) bodies) h
-redone_more bodies i g h body within at r x =
-    let next : take i bodies ++ body ∷ [] ≡ take (i + 1) bodies =
-    ap (λ (b : List ℕ). take i bodies ++ b ∷ []) (sym at) ∙ sym (take-suc bodies i [] within)
-    ∙ (let n : suc i ≡ i + 1 = omega arith in ap (λ k. take k bodies) n) in
-    record {
-      commands = r.commands ++ x.command ∷ [];
-      spell = subst (λ (bs : List (List ℕ)). Spell bs (r.commands ++ x.command ∷ [])) next
-          (spell_push (take i bodies) r.commands body x.command r.spell x.spells);
-      accepted = accepted_more empty_host r.commands (x.command ∷ []) r.accepted
-          (sym (ap (λ (k : HostImage). is_accepted (answer k x.command).reply) r.host) ∙ x.made.accepted, tt);
-      host = x.made.host ∙ ap (λ (k : HostImage). (answer k x.command).host) r.host
-          ∙ sym (after_append empty_host r.commands (x.command ∷ []));
-    }
+pub replaying_more : (bodies left : List (List ℕ)) (number : ℕ) (g h : HostImage) (body : List ℕ)
+    → IsReplaying bodies left number g → left ≡ body ∷ drop 1 left → IsRedone g body h
+    → IsReplaying bodies (drop 1 left) (number + 1) h
+replaying_more bodies left number g h body r at x = record {
+  made = r.made ++ body ∷ [];
+  whole = r.whole ∙ ap (λ (bs : List (List ℕ)). r.made ++ bs) at ∙ sym (append_assoc r.made (body ∷ []) (drop 1 left));
+  replayed = record {
+    commands = r.replayed.commands ++ x.command ∷ [];
+    spell = spell_push r.made r.replayed.commands body x.command r.replayed.spell x.spells;
+    accepted = accepted_more empty_host r.replayed.commands (x.command ∷ []) r.replayed.accepted
+        (sym (ap (λ (k : HostImage). is_accepted (answer k x.command).reply) r.replayed.host) ∙ x.made.accepted, tt);
+    host = x.made.host ∙ ap (λ (k : HostImage). (answer k x.command).host) r.replayed.host
+        ∙ sym (after_append empty_host r.replayed.commands (x.command ∷ []));
+  };
+  counted = omega (arith, r.counted, length-append r.made (body ∷ []));
+}
+
+-- the last was made
+pub replaying_all : (bodies left : List (List ℕ)) (number : ℕ) (h : HostImage) → IsReplaying bodies left number h → left ≡ []
+    → IsReplayed bodies h
+replaying_all bodies left number h r none =
+    let all : r.made ≡ bodies =
+    sym (append-nil r.made) ∙ ap (λ (bs : List (List ℕ)). r.made ++ bs) (sym none) ∙ sym r.whole in
+    subst (λ (bs : List (List ℕ)). IsReplayed bs h) all r.replayed
+
+-- how many were made so far
+pub replaying_few : (bodies left : List (List ℕ)) (number : ℕ) (h : HostImage) → IsReplaying bodies left number h
+    → h.commands ≤ length bodies
+replaying_few bodies left number h r =
+    let count = replayed_counts r.made h r.replayed in
+    let all = ap length r.whole in
+    omega (arith, count, all, length-append r.made left)
 
 -- a body that spells no command which the host accepts, behind those that do
-pub first_bad : (bodies : List (List ℕ)) (i n : ℕ) (g : HostImage) (body : List ℕ) → i < length bodies
-    → get_or bodies i [] ≡ body → IsReplayed (take i bodies) g → IsBadAt g body → n ≡ i + 1 → IsFirstBad bodies n
-first_bad bodies i n g body within at r bad number = record {
-  good = take i bodies;
-  commands = r.commands;
+pub first_bad : (bodies left : List (List ℕ)) (number n : ℕ) (g : HostImage) (body : List ℕ)
+    → IsReplaying bodies left number g → left ≡ body ∷ drop 1 left → IsBadAt g body → n ≡ number → IsFirstBad bodies n
+first_bad bodies left number n g body r at bad is = record {
+  good = r.made;
+  commands = r.replayed.commands;
   bad = body;
-  rest = drop (suc i) bodies;
-  whole = sym (take-append-drop i bodies)
-      ∙ ap (λ (bs : List (List ℕ)). take i bodies ++ bs) (drop-cons bodies i [] within
-      ∙ ap (λ (b : List ℕ). b ∷ drop (suc i) bodies) at);
-  spell = r.spell;
-  accepted = r.accepted;
-  is_bad = subst (λ (k : HostImage). IsBadAt k body) r.host bad;
-  number = omega (arith, number, length-take-le i bodies (omega (arith, within)));
+  rest = drop 1 left;
+  whole = r.whole ∙ ap (λ (bs : List (List ℕ)). r.made ++ bs) at;
+  spell = r.replayed.spell;
+  accepted = r.replayed.accepted;
+  is_bad = subst (λ (k : HostImage). IsBadAt k body) r.replayed.host bad;
+  number = is ∙ r.counted;
 }
 
 -- bodies spell no other commands
@@ -135,13 +158,12 @@ stands_same d n opened g h s r long =
 module _ {D : Type 0} (tells : Type 0) (leaves : D → DiskOf → Type 0) (left : D → ℕ → DiskOf → Type 0) (moment : D → ℕ)
     (only_now : (disk : D) (d : DiskOf) → moment disk < 2 ^ 64 - 1 → left disk (moment disk) d → leaves disk d) where
   -- a journal that was opened, and the host after its bodies
-  pub begun_as : (bodies read : List (List ℕ)) (h : HostOf) (n s first : ℕ) (log : Log) (j : JournalOf D) → read ≡ bodies
-      → IsReplayed read h.image → n ≡ length bodies → s ≡ moment j.disk → log.history.entries ≡ [] → log.moments.items ≡ []
+  pub begun_as : (bodies : List (List ℕ)) (h : HostOf) (n s first : ℕ) (log : Log) (j : JournalOf D)
+      → IsReplayed bodies h.image → n ≡ length bodies → s ≡ moment j.disk → log.history.entries ≡ [] → log.moments.items ≡ []
       → log.doubts.items ≡ [] → j.doubt ≡ None → first ≡ 1 → j.next ≡ first + length bodies
       → (tells → Keeps tells leaves j (record { format = 1; first = first }) bodies)
       → IsOpened tells leaves left moment (book_of h n s log j)
-  begun_as bodies read h n s first log j same replayed long start history moments doubts none one next keeps =
-      let r = subst (λ (bs : List (List ℕ)). IsReplayed bs h.image) same replayed in
+  begun_as bodies h n s first log j r long start history moments doubts none one next keeps =
       let count = length_spell bodies r.commands r.spell in
       let head : tells → Keeps tells leaves j (record { format = 1; first = 1 }) bodies =
       λ told. subst (λ k. Keeps tells leaves j (record { format = 1; first = k }) bodies) one (keeps told) in

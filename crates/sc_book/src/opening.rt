@@ -12,11 +12,10 @@ ghost use Rattle.sc_types.specs.declared.host.HostImage.{HostImage};
 use crate::book::Book;
 use crate::fault::OpenFault;
 use crate::log::Log;
-use sc_base::Bytes;
 use sc_codec::{CodecFault, decode};
 use sc_core::HostState;
 use sc_dev::Disk;
-use sc_journal::{Journal, JournalFault, Opened};
+use sc_journal::{Bodies, Journal, JournalFault, Opened};
 use sc_law::Engine;
 use sc_types::{Command, Reply};
 use std::alloc::Global;
@@ -97,17 +96,19 @@ fn make<E: Engine>(
 }
 
 /// The host after the commands that these bodies spell.
-fn replay<E: Engine>(alloc: Global, engine: &E, bodies: &[Bytes]) -> Result<HostState<E>, OpenFault>
-    requires { length bodies.now ≤ 2 ^ 48 }
-    ensures ok { IfOk result (λ h. IsReplayed bodies.now h.image) }
-    ensures bad { (n : ℕ) → result ≡ Err (OpenFault.BadEntry n) → IsFirstBad bodies.now n }
+fn replay<E: Engine>(alloc: Global, engine: &E, bodies: Bodies) -> Result<HostState<E>, OpenFault>
+    requires { length bodies ≤ 2 ^ 48 }
+    ensures ok { IfOk result (λ h. IsReplayed bodies h.image) }
+    ensures bad { (n : ℕ) → result ≡ Err (OpenFault.BadEntry n) → IsFirstBad bodies n }
     ensures disk { result ≢ Err OpenFault.Disk }
     ensures damaged { (at : ℕ) → result ≢ Err (OpenFault.Damaged at) }
 {
     let mut host = HostState::new(alloc);
+    let mut bodies = bodies;
     let mut number = 1;
-    for body in bodies {
-        redo(alloc, engine, &mut host, body.slice(), number)?;
+    while let Some(body) = bodies.front() {
+        redo(alloc, engine, &mut host, body, number)?;
+        bodies.pop_front();
         number += 1;
     }
     Ok(host)
@@ -119,13 +120,13 @@ fn replay_from<E: Engine>(
     alloc: Global,
     engine: &E,
     first: u64,
-    bodies: &[Bytes],
+    bodies: Bodies,
 ) -> Result<HostState<E>, OpenFault>
-    requires { first + length bodies.now ≤ 2 ^ 48 + 1 }
-    ensures ok { IfOk result (λ h. IsReplayed bodies.now h.image) }
+    requires { first + length bodies ≤ 2 ^ 48 + 1 }
+    ensures ok { IfOk result (λ h. IsReplayed bodies h.image) }
     ensures first { OnOk result (first ≡ 1) }
     ensures other { (at : ℕ) → result ≡ Err (OpenFault.Damaged at) → (at ≡ 12) × (first ≢ 1) }
-    ensures bad { (n : ℕ) → result ≡ Err (OpenFault.BadEntry n) → (first ≡ 1) × IsFirstBad bodies.now n }
+    ensures bad { (n : ℕ) → result ≡ Err (OpenFault.BadEntry n) → (first ≡ 1) × IsFirstBad bodies n }
     ensures disk { result ≢ Err OpenFault.Disk }
 {
     if first != 1 {
@@ -184,16 +185,16 @@ impl<'e, E: Engine, D: Disk> Book<'e, E, D> {
         opened: Opened<D>,
     ) -> Result<Book<'e, E, D>, NotOpened<D>>
         requires settled { opened.journal.doubt ≡ None }
-        requires next { opened.journal.next ≡ opened.first + length opened.bodies.items }
+        requires next { opened.journal.next ≡ opened.first + length opened.bodies }
         requires keeps { D.tells → Keeps D.tells D.may_leave opened.journal (record { format = 1; first = opened.first })
-            opened.bodies.items }
+            opened.bodies }
         ensures opened { IfOk result (IsOpened D.tells D.may_leave D.may_have_left D.moment) }
         ensures book { IfOk result (λ b. b.journal ≡ opened.journal) }
         ensures first { IfOk result (λ b. opened.first ≡ 1) }
-        ensures replayed { IfOk result (λ b. IsReplayed opened.bodies.items b.host × (b.opened ≡ length opened.bodies.items)) }
+        ensures replayed { IfOk result (λ b. IsReplayed opened.bodies b.host × (b.opened ≡ length opened.bodies)) }
         ensures other { IfErr result (λ f. (at : ℕ) → f.fault ≡ OpenFault.Damaged at → (at ≡ 12) × (opened.first ≢ 1)) }
         ensures bad { IfErr result (λ f. (n : ℕ) → f.fault ≡ OpenFault.BadEntry n
-            → (opened.first ≡ 1) × IsFirstBad opened.bodies.items n) }
+            → (opened.first ≡ 1) × IsFirstBad opened.bodies n) }
         ensures disk { IfErr result (λ f. f.fault ≢ OpenFault.Disk) }
         ensures back { IfErr result (λ f. f.disk ≡ opened.journal.disk) }
     {
@@ -204,13 +205,14 @@ impl<'e, E: Engine, D: Disk> Book<'e, E, D> {
         } = opened;
         // Its limit bounds how many bodies there are.
         let _next = journal.next_number();
-        match replay_from(alloc, engine, first, bodies.as_slice()) {
+        let count = bodies.len();
+        match replay_from(alloc, engine, first, bodies) {
             Ok(host) => {
                 let start = journal.moment();
                 Ok(Book {
                     engine,
                     host,
-                    opened: bodies.len() as u64,
+                    opened: count,
                     start,
                     log: Log::new(alloc),
                     journal,

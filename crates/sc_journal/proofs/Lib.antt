@@ -5,3 +5,4 @@ pub mod Kept
 pub mod NewTexts
 pub mod Reading
 pub mod Runs
+mod LeftLemmas

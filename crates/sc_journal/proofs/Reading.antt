@@ -1,10 +1,11 @@
 -- How the entries of a text are read one after another.
-use Rattle.std.proofs.Common.{◌≡◌, ◌≢◌, ℕ, suc, ◌+◌, ◌-◌, ◌<◌, ◌≤◌, ◌==◌, cond, Option, None, Some, Result, Ok, Err, List, [], ◌∷◌, ◌++◌, length, get_or, take, drop, flat_map, refl, sym, ◌∙◌, ap, arith, append_assoc, length-append, take-append-drop}
+use Rattle.std.proofs.Common.{◌≡◌, ◌≢◌, ℕ, suc, ◌+◌, ◌-◌, ◌^◌, ◌<◌, ◌≤◌, ◌==◌, cond, All, Option, None, Some, Result, Ok, Err, List, [], ◌∷◌, ◌++◌, length, get_or, take, drop, flat_map, refl, sym, ◌∙◌, ap, arith, append_assoc, length-append, take-append-drop}
 use Rattle.std.proofs.lemmas.Bool.Decides.{nat_tests}
+use Rattle.std.proofs.lemmas.List.Elements.{All-nil}
 use Rattle.std.proofs.lemmas.List.{append-nil, take_rest, drop_more, drop-drop, flat_map_more}
 use Rattle.sc_frame.specs.Fields.{number_field}
 use Rattle.sc_frame.proofs.FieldLemmas.{length-number_field}
-use Rattle.sc_journal.specs.Texts.{HeadOf, header, entry, front, body_at, joined, with_body, entries_from}
+use Rattle.sc_journal.specs.Texts.{HeadOf, IsBody, header, entry, front, body_at, joined, with_body, entries_from}
 
 -- these bodies in front of those
 abbrev pub prefixed : List (List ℕ) → Result (List (List ℕ)) ℕ → Result (List (List ℕ)) ℕ
@@ -114,3 +115,31 @@ bytes-all head text at bodies within first rest =
     sym (take-append-drop 20 text) ∙ (λ i. first i ++ rest i)
     ∙ sym (append_assoc (header head) (flat_map entry bodies) (drop at text))
     ∙ ap (λ (l : List ℕ). front head bodies ++ l) (drop_more text at 0 within)
+
+-- ---- what the reader has read so far, up to a place where an entry of this number may begin
+pub record HasRead (text : List ℕ) (first at number : ℕ) : Type 0 where
+  pub bodies : List (List ℕ)
+  pub within : at < length text
+  pub few : length bodies + 20 ≤ at
+  pub end : at ≡ 20 + length (flat_map entry bodies)
+  pub counted : number ≡ first + length bodies
+  pub last : number ≤ 2 ^ 48 + 1
+  pub read : drop 20 text ≡ flat_map entry bodies ++ drop at text
+  pub sizes : All IsBody bodies
+  pub rest : prefixed bodies (entries_from (length text - length bodies) number at (drop at text))
+      ≡ entries_from (length text) first 20 (drop 20 text)
+
+-- nothing yet
+pub begun : (text : List ℕ) (first : ℕ) → 21 ≤ length text → first ≤ 2 ^ 48 → HasRead text first 20 first
+begun text first long most = record {
+  bodies = [];
+  within = omega (arith, long);
+  few = omega arith;
+  end = omega arith;
+  counted = omega arith;
+  last = omega (arith, most);
+  read = refl;
+  sizes = All-nil IsBody;
+  rest = prefixed-none (entries_from (length text - 0) first 20 (drop 20 text))
+      ∙ (let whole : length text - 0 ≡ length text = omega arith in ap (λ n. entries_from n first 20 (drop 20 text)) whole);
+}

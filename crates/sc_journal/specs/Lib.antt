@@ -1,3 +1,4 @@
+pub mod BodiesLeft
 pub mod JournalInside
 pub mod Journals
 pub mod Stops

@@ -5,10 +5,10 @@ ghost use Rattle.sc_journal.specs.Journals.{Keeps, IsWithOrWithout, IsAsDoubted,
 ghost use Rattle.sc_journal.specs.Stops.{LeavesOnly, Passes};
 ghost use Rattle.sc_journal.specs.Texts.{HeadOf, Holds, held};
 
+use crate::bodies::Bodies;
 use crate::fault::{AppendFault, JournalFault};
 use crate::load::{Loaded, load};
 use crate::write::{fill, write_synced};
-use sc_base::Bytes;
 use sc_dev::{Disk, Failed};
 use std::alloc::Global;
 use std::marker::Model;
@@ -44,7 +44,7 @@ pub struct Opened<D: Disk> {
     pub journal: Journal<D>,
     /// The number of the first.
     pub first: u64,
-    pub bodies: Vec<Bytes>,
+    pub bodies: Bodies,
 }
 
 /// Why a journal was not opened, and its disk.
@@ -67,20 +67,20 @@ impl<D: Disk> Journal<D> {
     /// Opens a journal: syncs it and reads what it holds. The disk comes back where that fails.
     pub fn open(alloc: Global, disk: D) -> Result<Opened<D>, NotOpened<D>>
         // exactly the bodies of the text, or the first case of damage
-        ensures bodies { D.tells → IfOk result (λ o. held (D.reads disk).journal ≡ Ok o.bodies.items) }
+        ensures bodies { D.tells → IfOk result (λ o. held (D.reads disk).journal ≡ Ok o.bodies) }
         ensures damaged { D.tells → IfErr result (λ n. (at : ℕ) → n.fault ≡ JournalFault.Damaged at
             → held (D.reads disk).journal ≡ Err at) }
 
         // so where the text holds bodies, these and nothing but a fault or want of memory
         ensures whole { D.tells → (head : HeadOf) (bodies : _) → Holds head bodies (D.reads disk).journal
-            → MatchResult result (λ o. (o.first ≡ head.first) × (o.bodies.items ≡ bodies))
+            → MatchResult result (λ o. (o.first ≡ head.first) × (o.bodies ≡ bodies))
             (λ n. (at : ℕ) → n.fault ≢ JournalFault.Damaged at) }
 
         // every stop leaves them
         ensures keeps { D.tells → IfOk result (λ o.
-            Keeps D.tells D.may_leave o.journal (record { format = 1; first = o.first }) o.bodies.items) }
+            Keeps D.tells D.may_leave o.journal (record { format = 1; first = o.first }) o.bodies) }
         ensures settled { IfOk result (λ o. o.journal.doubt ≡ None) }
-        ensures next { IfOk result (λ o. o.journal.next ≡ o.first + length o.bodies.items) }
+        ensures next { IfOk result (λ o. o.journal.next ≡ o.first + length o.bodies) }
 
         // only where the disk's faults rose
         ensures disk { IfErr result (λ n. n.fault ≡ JournalFault.Disk → Rose (D.faults disk) (D.faults n.disk)) }
@@ -108,13 +108,13 @@ impl<D: Disk> Journal<D> {
     }
 
     fn opened(disk: D, loaded: Loaded) -> Opened<D>
-        requires last { loaded.found.first + length loaded.found.bodies.items ≤ 2 ^ 48 + 1 }
+        requires last { loaded.found.first + length loaded.found.bodies ≤ 2 ^ 48 + 1 }
         requires end { loaded.found.end < 2 ^ 40 }
         requires room { 2097157 ≤ vec_capacity loaded.buffer }
         ensures journal { result.journal ≡ record {
           disk = disk;
           end = loaded.found.end;
-          next = loaded.found.first + length loaded.found.bodies.items;
+          next = loaded.found.first + length loaded.found.bodies;
           doubt = None;
         } }
         ensures first { result.first ≡ loaded.found.first }
@@ -126,7 +126,7 @@ impl<D: Disk> Journal<D> {
                 disk,
                 buffer,
                 end: found.end as u64,
-                next: found.first + found.bodies.len() as u64,
+                next: found.first + found.bodies.len(),
                 is_in_doubt: false,
             },
             first: found.first,

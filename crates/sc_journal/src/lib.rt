@@ -4,6 +4,7 @@
 //! by a write of its own once what stands behind it was synced.
 #![tactic(auto)]
 
+mod bodies;
 mod fault;
 mod journal;
 mod load;
@@ -11,6 +12,7 @@ mod making;
 mod text;
 mod write;
 
+pub use bodies::Bodies;
 pub use fault::{AppendFault, CreateFault, JournalFault};
 pub use journal::{Journal, NotOpened, Opened};
 pub use making::create;

@@ -46,13 +46,13 @@ pub struct Loaded {
 
 // Syncs the journal and reads what it holds.
 pub fn load<D: Disk>(alloc: Global, disk: &mut D) -> Result<Loaded, JournalFault>
-    ensures bodies { D.tells → IfOk result (λ l. held (D.reads disk.old).journal ≡ Ok l.found.bodies.items) }
+    ensures bodies { D.tells → IfOk result (λ l. held (D.reads disk.old).journal ≡ Ok l.found.bodies) }
     ensures first { D.tells → IfOk result (λ l. first_number (D.reads disk.old).journal ≡ Ok l.found.first) }
     ensures holds { D.tells → IfOk result (λ l. (c : DiskOf) → D.may_leave disk.new c
-        → Holds (record { format = 1; first = l.found.first }) l.found.bodies.items c.journal) }
+        → Holds (record { format = 1; first = l.found.first }) l.found.bodies c.journal) }
     ensures end { IfOk result (λ l.
-        l.found.end ≡ length (front (record { format = 1; first = l.found.first }) l.found.bodies.items)) }
-    ensures last { IfOk result (λ l. l.found.first + length l.found.bodies.items ≤ 2 ^ 48 + 1) }
+        l.found.end ≡ length (front (record { format = 1; first = l.found.first }) l.found.bodies)) }
+    ensures last { IfOk result (λ l. l.found.first + length l.found.bodies ≤ 2 ^ 48 + 1) }
     ensures short { IfOk result (λ l. l.found.end < 2 ^ 40) }
     ensures room { IfOk result (λ l. 2097157 ≤ vec_capacity l.buffer) }
     ensures damaged { D.tells → (at : ℕ) → result ≡ Err (JournalFault.Damaged at)
@@ -66,7 +66,10 @@ pub fn load<D: Disk>(alloc: Global, disk: &mut D) -> Result<Loaded, JournalFault
 {
     disk.sync(Part::Journal)?;
     let text = read_journal(alloc, disk)?;
-    let found = read_text(alloc, &text)?;
+    let found = match read_text(text) {
+        Ok(found) => found,
+        Err(place) => return Err(JournalFault::Damaged(place)),
+    };
     let buffer = Vec::with_capacity(alloc, 2097157)?;
     Ok(Loaded { found, buffer })
 }

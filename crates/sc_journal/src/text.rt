@@ -1,14 +1,12 @@
-ghost use Rattle.std.specs.Prelude.{◌≡◌, ◌+◌, ◌-◌, ◌^◌, ◌<◌, ◌≤◌, List, ℕ, [], ◌∷◌, ◌++◌, length, take, drop, false, true, Some, None, Ok, Err, IfOk, IfSome, OnOk, OnSome, IsTrue, ◌≢◌, flat_map, option_map};
+ghost use Rattle.std.specs.Prelude.{◌≡◌, ◌+◌, ◌-◌, ◌^◌, ◌<◌, ◌≤◌, List, ℕ, [], ◌∷◌, ◌++◌, length, take, drop, false, true, Some, None, Ok, Err, IfOk, IfErr, IfSome, OnOk, OnSome, IsTrue, ◌≢◌, flat_map, option_map};
 ghost use Rattle.std.specs.Borrow.{Bor};
 ghost use Rattle.std.specs.Str.{bytes_eq};
 ghost use Rattle.sc_frame.specs.Fields.{number_field, field_number};
 ghost use Rattle.sc_journal.specs.Texts.{mark, first_number, is_size, body_at, entries_from, held, has_open_header, entry, header, front, Holds};
-ghost use Rattle.sc_journal.specs.declared.fault.JournalFault.TheVariants.{Damaged, Disk};
+ghost use Rattle.sc_journal.specs.BodiesLeft.{HasEntries};
 
-use crate::fault::JournalFault;
+use crate::bodies::Bodies;
 use byteorder::{BigEndian, ByteOrder};
-use sc_base::Bytes;
-use std::alloc::Global;
 
 const MARK: &[u8] = b"SCXHOST";
 
@@ -16,7 +14,7 @@ const MARK: &[u8] = b"SCXHOST";
 #[derive(Drop)]
 pub struct Found {
     pub first: u64,
-    pub bodies: Vec<Bytes>,
+    pub bodies: Bodies,
     pub end: usize,
 }
 
@@ -93,7 +91,7 @@ fn is_size(size: usize, room: usize) -> bool
 }
 
 // The body of an entry, from the bytes behind its gate.
-fn body_at(number: u64, rest: &[u8]) -> Option<&[u8]>
+pub fn body_at(number: u64, rest: &[u8]) -> Option<&[u8]>
     ensures body { option_map (λ (b : Bor (List ℕ)). b.now) result ≡ body_at number rest.now }
     ensures number { OnSome result (number ≤ 2 ^ 48) }
     ensures entry { IfSome result (λ b. rest.now
@@ -111,54 +109,52 @@ fn body_at(number: u64, rest: &[u8]) -> Option<&[u8]>
     Some(&rest[4..4 + size])
 }
 
-// The bodies of the entries up to the first closed gate, with the number of the first.
-fn entries(alloc: Global, text: &[u8], first: u64) -> Result<Found, JournalFault>
+// The entries of a text up to its first closed gate: how many there are, and the place of the gate.
+#[derive(Clone, Copy)]
+struct Extent {
+    count: u64,
+    end: usize,
+}
+
+// Walks through the entries, of which the first has this number.
+fn walk(text: &[u8], first: u64) -> Result<Extent, u64>
     requires long { 21 ≤ length text.now }
     requires some { 1 ≤ first }
     requires most { first ≤ 2 ^ 48 }
     requires header { take 20 text.now ≡ header (record { format = 1; first = first }) }
-    ensures bodies { IfOk result (λ f.
-        entries_from (length text.now) first 20 (drop 20 text.now) ≡ Ok f.bodies.items) }
-    ensures first { IfOk result (λ f. f.first ≡ first) }
-    ensures last { IfOk result (λ f. first + length f.bodies.items ≤ 2 ^ 48 + 1) }
-    ensures holds { IfOk result (λ f. Holds (record { format = 1; first = first }) f.bodies.items text.now) }
-    ensures end { IfOk result (λ f. f.end ≡ length (front (record { format = 1; first = first }) f.bodies.items)) }
-    ensures within { IfOk result (λ f. f.end < length text.now) }
-    ensures damaged { (at : ℕ) → result ≡ Err (Damaged at)
-        → entries_from (length text.now) first 20 (drop 20 text.now) ≡ Err at }
-    ensures disk { result ≢ Err Disk }
+    ensures entries { IfOk result (λ e. HasEntries text.now first e.count e.end) }
+    ensures damaged { IfErr result (λ at. entries_from (length text.now) first 20 (drop 20 text.now) ≡ Err at) }
 {
-    let mut bodies = Vec::new(alloc);
     let mut at = 20;
     let mut number = first;
     while text[at] == 1 {
         let Some(body) = body_at(number, &text[at + 1..]) else {
-            return Err(JournalFault::Damaged(at as u64));
+            return Err(at as u64);
         };
-        bodies.push(Bytes::from_slice(alloc, body)?)?;
         at += 5 + body.len();
         number += 1;
     }
-    Ok(Found {
-        first,
-        bodies,
+    Ok(Extent {
+        count: number - first,
         end: at,
     })
 }
 
 // What a text holds, or where it is damaged.
-pub fn read_text(alloc: Global, text: &[u8]) -> Result<Found, JournalFault>
-    ensures bodies { IfOk result (λ f. held text.now ≡ Ok f.bodies.items) }
-    ensures first { IfOk result (λ f. first_number text.now ≡ Ok f.first) }
-    ensures last { IfOk result (λ f. f.first + length f.bodies.items ≤ 2 ^ 48 + 1) }
-    ensures holds { IfOk result (λ f. Holds (record { format = 1; first = f.first }) f.bodies.items text.now) }
-    ensures end { IfOk result (λ f. f.end ≡ length (front (record { format = 1; first = f.first }) f.bodies.items)) }
-    ensures within { IfOk result (λ f. f.end < length text.now) }
-    ensures damaged { (at : ℕ) → result ≡ Err (Damaged at) → held text.now ≡ Err at }
-    ensures disk { result ≢ Err Disk }
+pub fn read_text(text: Vec<u8>) -> Result<Found, u64>
+    ensures bodies { IfOk result (λ f. held text.items ≡ Ok f.bodies) }
+    ensures first { IfOk result (λ f. first_number text.items ≡ Ok f.first) }
+    ensures last { IfOk result (λ f. f.first + length f.bodies ≤ 2 ^ 48 + 1) }
+    ensures holds { IfOk result (λ f. Holds (record { format = 1; first = f.first }) f.bodies text.items) }
+    ensures end { IfOk result (λ f. f.end ≡ length (front (record { format = 1; first = f.first }) f.bodies)) }
+    ensures within { IfOk result (λ f. f.end < length text.items) }
+    ensures damaged { IfErr result (λ at. held text.items ≡ Err at) }
 {
-    match first_number(text) {
-        Ok(first) => entries(alloc, text, first),
-        Err(place) => Err(JournalFault::Damaged(place)),
-    }
+    let first = first_number(&text)?;
+    let Extent { count, end } = walk(&text, first)?;
+    Ok(Found {
+        first,
+        bodies: Bodies::of(text, first, count),
+        end,
+    })
 }

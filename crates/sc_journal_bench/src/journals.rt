@@ -2,9 +2,8 @@
 use crate::bytes::{made, sum};
 use crate::state::{Answer, State};
 use crate::words::{Words, Work};
-use sc_base::Bytes;
 use sc_dev::MemDisk;
-use sc_journal::{AppendFault, CreateFault, Journal, JournalFault, create};
+use sc_journal::{AppendFault, Bodies, CreateFault, Journal, JournalFault, Opened, create};
 use std::alloc::Global;
 
 pub fn begun(alloc: Global, disk: MemDisk, work: Work) -> (State, Answer) {
@@ -19,8 +18,13 @@ pub fn begun(alloc: Global, disk: MemDisk, work: Work) -> (State, Answer) {
     }
     match Journal::open(alloc, disk) {
         Ok(opened) => {
-            let number = total(&opened.bodies).wrapping_add(opened.first);
-            (State::Journal(opened.journal), Answer::Done(number))
+            let Opened {
+                journal,
+                first,
+                bodies,
+            } = opened;
+            let number = total(bodies).wrapping_add(first);
+            (State::Journal(journal), Answer::Done(number))
         }
         Err(refused) => (State::Disk(refused.disk), fault(refused.fault)),
     }
@@ -34,10 +38,12 @@ fn fault(fault: JournalFault) -> Answer {
     }
 }
 
-fn total(bodies: &[Bytes]) -> u64 {
-    let mut total = bodies.len() as u64;
-    for body in bodies {
-        total = total.wrapping_mul(31).wrapping_add(sum(body.slice())) % 1_000_000_007;
+fn total(bodies: Bodies) -> u64 {
+    let mut bodies = bodies;
+    let mut total = bodies.len();
+    while let Some(body) = bodies.front() {
+        total = total.wrapping_mul(31).wrapping_add(sum(body)) % 1_000_000_007;
+        bodies.pop_front();
     }
     total
 }

@@ -1,8 +1,7 @@
 //! Steps on a disk in memory and a journal on it, and what comes of them.
 
-use sc_base::Bytes;
 use sc_dev::{Disk, MemDisk, Part};
-use sc_journal::{AppendFault, CreateFault, Journal, JournalFault, create};
+use sc_journal::{AppendFault, Bodies, CreateFault, Journal, JournalFault, Opened, create};
 use std::alloc::{AllocError, Global};
 
 /// What is asked for.
@@ -156,12 +155,14 @@ fn has(disk: &MemDisk, part: Part, bytes: &[u8]) -> Outcome {
 fn open(alloc: Global, disk: MemDisk) -> (State, Outcome) {
     match Journal::open(alloc, disk) {
         Ok(opened) => {
-            let outcome = Outcome::Opened(
-                opened.first,
-                opened.bodies.len(),
-                size_of(&opened.bodies),
-            );
-            (State::Journal(opened.journal), outcome)
+            let Opened {
+                journal,
+                first,
+                bodies,
+            } = opened;
+            let count = bodies.len() as usize;
+            let outcome = Outcome::Opened(first, count, size_of(bodies));
+            (State::Journal(journal), outcome)
         }
         Err(refused) => {
             let outcome = fault(refused.fault);
@@ -178,10 +179,12 @@ fn fault(fault: JournalFault) -> Outcome {
     }
 }
 
-fn size_of(bodies: &[Bytes]) -> usize {
+fn size_of(bodies: Bodies) -> usize {
+    let mut bodies = bodies;
     let mut size = 0usize;
-    for body in bodies {
+    while let Some(body) = bodies.front() {
         size = size.saturating_add(body.len());
+        bodies.pop_front();
     }
     size
 }

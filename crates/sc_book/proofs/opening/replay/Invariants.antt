@@ -1,9 +1,9 @@
-use Rattle.std.proofs.Common.{◌≡◌, ◌+◌, take}
-use Rattle.sc_book.specs.Openings.{IsReplayed}
+use Rattle.std.proofs.Common.{length}
+use Rattle.sc_book.proofs.OpenLemmas.{IsReplaying}
 use Rattle.sc_book.proofs.opening.replay.Given as goal
 
-abbrev pub invariant-loop-body : goal.invariant-loop-body
-invariant-loop-body g l = record {
-  number : l.number ≡ l.body-index + 1;
-  replayed : IsReplayed (take l.body-index l.bodies) l.host.image;
-}
+abbrev pub invariant-loop-host : goal.invariant-loop-host
+invariant-loop-host g l = IsReplaying l.bodies l.bodies-1 l.number l.host.image
+
+abbrev pub decreases-loop-host : goal.decreases-loop-host
+decreases-loop-host g l = length l.bodies-1

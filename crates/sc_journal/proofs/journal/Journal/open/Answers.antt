@@ -1,4 +1,4 @@
-use Rattle.std.proofs.Common.{◌≡◌, ◌∙◌, ℕ, Global, Vec, Result, Ok, Err, List, sym, ap}
+use Rattle.std.proofs.Common.{◌≡◌, ◌∙◌, Result, Ok, Err, sym, ap}
 use Rattle.sc_journal.proofs.Held.{held-holds}
 use Rattle.sc_journal.proofs.journal.Journal.open.Goals as goal
 
@@ -13,8 +13,8 @@ returns-in-Ok-clause-whole g c = λ told head bodies holds.
     let text = (g.D.Disk.reads c.args.disk).journal in
     let read = held-holds head bodies text holds in
     let first : c.in-Ok.loaded.found.first ≡ head.first = same _ _ (sym (c.in-Ok.ensures.first told) ∙ read.0) in
-    let all : c.in-Ok.loaded.found.bodies.items ≡ bodies = same _ _ (sym (c.in-Ok.ensures.bodies told) ∙ read.1) in
-    (c.opened.ensures.first ∙ first, ap (λ (v : Vec (List ℕ) Global). v.items) c.opened.ensures.bodies ∙ all)
+    let all : c.in-Ok.loaded.found.bodies ≡ bodies = same _ _ (sym (c.in-Ok.ensures.bodies told) ∙ read.1) in
+    (c.opened.ensures.first ∙ first, c.opened.ensures.bodies ∙ all)
 
 pub returns-in-Err-clause-whole : goal.returns-in-Err-clause-whole
 returns-in-Err-clause-whole g c = λ told head bodies holds at e.
