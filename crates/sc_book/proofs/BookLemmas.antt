@@ -1,12 +1,12 @@
 -- What a book keeps from one call to the next.
-use Rattle.std.proofs.Common.{◌≡◌, ◌∙◌, ◌⊎◌, inl, inr, ℕ, zero, suc, ◌+◌, ◌-◌, ◌^◌, ◌<◌, ◌≤◌, All, Bool, true, false, IsTrue, Option, None, Some, List, [], ◌∷◌, ◌++◌, append_assoc, if◌then◌else◌, length, take, slice_get, refl, sym, ap, subst, arith, length-append}
+use Rattle.std.proofs.Common.{◌≡◌, ◌∙◌, ◌⊎◌, inl, inr, ℕ, zero, suc, ◌+◌, ◌-◌, ◌^◌, ◌<◌, ◌≤◌, All, Bool, true, false, Option, None, Some, List, [], ◌∷◌, ◌++◌, append_assoc, if◌then◌else◌, length, slice_get, refl, sym, ap, subst, arith, length-append}
 use Rattle.std.specs.List.{Contains}
 use Rattle.std.proofs.Math.Seq.{take-length}
 use Rattle.std.proofs.lemmas.List.{append-nil, take-append-le}
 use Rattle.std.proofs.lemmas.List.Elements.{All-cons, All-head, All-push, All-tail, Contains-append_left, Contains-append_right}
 use Rattle.std.proofs.lemmas.Option.{slice_get_within}
 use Rattle.sc_book.specs.Books.{BookOf, HoldsAll, IsAt, IsBook, IsInDoubt, IsLastDoubt, IsSince, Rise, count_after, first_head, host_after, opening}
-use Rattle.sc_book.specs.Images.{IsBase, Spell, StandsFor}
+use Rattle.sc_book.specs.Images.{Spell, StandsFor}
 use Rattle.sc_book.specs.Receipts.{IsAllOrDoubted, IsAllOrMore, IsDuring}
 use Rattle.sc_book.specs.declared.doubt.Doubt.{Doubt}
 use Rattle.sc_codec.specs.Bodies.{Spells, body_of}
@@ -15,7 +15,7 @@ use Rattle.sc_core.specs.Commands.{answer}
 use Rattle.sc_core.specs.Histories.{IsLegal, Tells, replay}
 use Rattle.sc_core.specs.Hosts.{empty_host}
 use Rattle.sc_core.proofs.AcceptedLemmas.{accepted_append, accepted_more, after_append, after_counts, legal_accepted, legal_more, refused_changes_nothing, replay_append, replay_counts, replay_is_after}
-use Rattle.sc_dev.specs.Causes.{Rose, risen}
+use Rattle.sc_dev.specs.Causes.{Rose}
 use Rattle.sc_dev.specs.Disks.{DiskOf}
 use Rattle.sc_journal.specs.Journals.{IsAsDoubted, IsWithOrWithout, JournalOf, Keeps, StandsAt}
 use Rattle.sc_journal.specs.Stops.{LeavesOnly}

@@ -1,5 +1,5 @@
 -- How the bodies of a journal become a host, one after another.
-use Rattle.std.proofs.Common.{◌≡◌, ◌≢◌, ◌∙◌, ℕ, suc, ◌+◌, ◌-◌, ◌^◌, ◌<◌, ◌≤◌, true, false, Option, None, Result, Ok, Err, IfOk, IfErr, List, [], ◌∷◌, ◌++◌, length, drop, refl, sym, ap, subst, arith, append_assoc, length-append}
+use Rattle.std.proofs.Common.{◌≡◌, ◌≢◌, ◌∙◌, ℕ, ◌+◌, ◌-◌, ◌^◌, ◌<◌, ◌≤◌, true, false, Option, None, Result, Ok, Err, IfOk, IfErr, List, [], ◌∷◌, ◌++◌, length, drop, refl, sym, ap, subst, arith, append_assoc, length-append}
 use Rattle.std.proofs.lemmas.List.{append-nil}
 use Rattle.std.specs.Result.{MatchResult}
 use Rattle.sc_book.specs.Images.{Spell, StandsFor}
@@ -12,15 +12,14 @@ use Rattle.sc_book.specs.declared.fault.OpenFault.TheVariants.{Disk, Damaged, Ba
 use Rattle.sc_book.specs.declared.log.Log.{Log}
 use Rattle.sc_book.proofs.AnswerLemmas.{same_book}
 use Rattle.sc_codec.proofs.Commands.{one_command}
-use Rattle.sc_codec.specs.Bodies.{Spells}
 use Rattle.sc_core.specs.Accepted.{AreAccepted, after, is_accepted}
 use Rattle.sc_core.specs.Commands.{answer}
 use Rattle.sc_core.specs.Hosts.{empty_host}
 use Rattle.sc_core.specs.HostStates.{HostOf}
 use Rattle.sc_dev.specs.Disks.{DiskOf}
 use Rattle.sc_journal.specs.Journals.{JournalOf, Keeps, StandsAt}
-use Rattle.sc_journal.specs.Texts.{HeadOf, Holds}
-use Rattle.sc_core.proofs.AcceptedLemmas.{accepted_more, accepted_parts, after_append, after_counts}
+use Rattle.sc_journal.specs.Texts.{HeadOf}
+use Rattle.sc_core.proofs.AcceptedLemmas.{accepted_more, after_append, after_counts}
 use Rattle.sc_types.specs.declared.command.Command.{Command}
 use Rattle.sc_types.specs.declared.host.HostImage.{HostImage}
 
@@ -55,6 +54,15 @@ pub record IsReplaying (bodies left : List (List ℕ)) (number : ℕ) (h : HostI
   pub replayed : IsReplayed made h
   pub counted : number ≡ length made + 1
 
+-- none yet
+pub replaying_none : (bodies : List (List ℕ)) (h : HostImage) → h ≡ empty_host → IsReplaying bodies bodies 1 h
+replaying_none bodies h empty = record {
+  made = [];
+  whole = refl;
+  replayed = record { commands = []; spell = tt; accepted = tt; host = empty };
+  counted = refl;
+}
+
 -- the next body
 pub replaying_more : (bodies left : List (List ℕ)) (number : ℕ) (g h : HostImage) (body : List ℕ)
     → IsReplaying bodies left number g → left ≡ body ∷ drop 1 left → IsRedone g body h
@@ -83,11 +91,12 @@ replaying_all bodies left number h r none =
 
 -- how many were made so far
 pub replaying_few : (bodies left : List (List ℕ)) (number : ℕ) (h : HostImage) → IsReplaying bodies left number h
-    → h.commands ≤ length bodies
+    → (h.commands ≤ length bodies) × (number ≤ length bodies + 1)
 replaying_few bodies left number h r =
     let count = replayed_counts r.made h r.replayed in
     let all = ap length r.whole in
-    omega (arith, count, all, length-append r.made left)
+    let both = length-append r.made left in
+    (omega (arith, count, all, both), omega (arith, r.counted, all, both))
 
 -- a body that spells no command which the host accepts, behind those that do
 pub first_bad : (bodies left : List (List ℕ)) (number n : ℕ) (g : HostImage) (body : List ℕ)

@@ -1,6 +1,6 @@
 -- What is always true of a book: its history is legal, its host is what the history leaves, and its journal holds the
 -- commands that were accepted, whenever the machine stops. This host's own rule.
-use Rattle.std.specs.Prelude.{ℕ, ◌+◌, ◌-◌, ◌^◌, ◌<◌, ◌≤◌, ◌≡◌, ◌⊎◌, All, true, Option, Some, List, [], ◌∷◌, ◌++◌, length, slice_get, take}
+use Rattle.std.specs.Prelude.{ℕ, ◌+◌, ◌-◌, ◌^◌, ◌<◌, ◌≤◌, ◌≡◌, ◌⊎◌, All, true, Some, List, [], ◌∷◌, ◌++◌, length, slice_get, take}
 use Rattle.std.specs.List.{Contains}
 use Rattle.sc_book.specs.Images.{Spell, StandsFor}
 use Rattle.sc_book.specs.declared.doubt.Doubt.{Doubt}

@@ -1,5 +1,5 @@
 -- A command that is answered, with its receipt and its body for the journal. Only private clauses cite these definitions.
-use Rattle.std.specs.Prelude.{ℕ, ◌≡◌, ◌≤◌, IsTrue, Bool, true, false, Option, None, Some, List, length}
+use Rattle.std.specs.Prelude.{ℕ, ◌≡◌, ◌≤◌, Bool, true, false, Option, None, Some, List, length}
 use Rattle.sc_book.specs.declared.draft.Draft.{Draft}
 use Rattle.sc_book.specs.declared.receipt.Receipt.{Receipt}
 use Rattle.sc_codec.specs.Bodies.{Spells}

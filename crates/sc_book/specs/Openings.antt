@@ -3,7 +3,7 @@ use Rattle.std.specs.Prelude.{ℕ, ◌+◌, ◌≡◌, ◌≢◌, ◌⊎◌, fal
 use Rattle.sc_book.specs.Books.{BookOf, IsBook}
 use Rattle.sc_book.specs.Images.{Spell}
 use Rattle.sc_book.specs.declared.fault.OpenFault.{OpenFault}
-use Rattle.sc_book.specs.declared.fault.OpenFault.TheVariants.{Disk, Damaged, BadEntry, NoMemory}
+use Rattle.sc_book.specs.declared.fault.OpenFault.TheVariants.{Damaged, BadEntry}
 use Rattle.sc_codec.specs.Bodies.{Spells}
 use Rattle.sc_core.specs.Accepted.{AreAccepted, after, is_accepted}
 use Rattle.sc_core.specs.Commands.{answer}

@@ -1,10 +1,10 @@
 -- What a call of a book does. This host's own rule.
-use Rattle.std.specs.Prelude.{ℕ, ◌+◌, ◌≡◌, ◌⊎◌, ◌∷◌, ◌++◌, [], true, List, length, Result, Ok, Err}
+use Rattle.std.specs.Prelude.{◌+◌, ◌≡◌, ◌⊎◌, ◌∷◌, ◌++◌, [], true, List, length}
 use Rattle.sc_book.specs.Books.{BookOf, IsAt, IsInDoubt, count_after}
 use Rattle.sc_book.specs.Images.{StandsFor}
 use Rattle.sc_book.specs.declared.doubt.Doubt.{Doubt}
 use Rattle.sc_book.specs.declared.fault.CallFault.{CallFault}
-use Rattle.sc_book.specs.declared.fault.CallFault.TheVariants.{Disk, Full, NoMemory}
+use Rattle.sc_book.specs.declared.fault.CallFault.TheVariants.{Disk}
 use Rattle.sc_book.specs.declared.receipt.Receipt.{Receipt}
 use Rattle.sc_codec.specs.Bodies.{body_of}
 use Rattle.sc_core.specs.Accepted.{is_accepted}

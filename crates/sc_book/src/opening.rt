@@ -104,11 +104,11 @@ fn replay<E: Engine>(alloc: Global, engine: &E, bodies: Bodies) -> Result<HostSt
     ensures damaged { (at : ℕ) → result ≢ Err (OpenFault.Damaged at) }
 {
     let mut host = HostState::new(alloc);
-    let mut bodies = bodies;
+    let mut left = bodies;
     let mut number = 1;
-    while let Some(body) = bodies.front() {
+    while let Some(body) = left.front() {
         redo(alloc, engine, &mut host, body, number)?;
-        bodies.pop_front();
+        left.pop_front();
         number += 1;
     }
     Ok(host)

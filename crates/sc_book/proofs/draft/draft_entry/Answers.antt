@@ -1,4 +1,4 @@
-use Rattle.std.proofs.Common.{rules, arith, ◌≡◌, ◌+◌, ℕ, length, subst}
+use Rattle.std.proofs.Common.{rules, ◌≡◌, ◌+◌, ℕ, length, subst}
 use Rattle.sc_book.specs.Drafts.{Confirms, HasBody}
 use Rattle.sc_core.specs.Accepted.{is_accepted}
 use Rattle.sc_core.specs.Commands.{answer}

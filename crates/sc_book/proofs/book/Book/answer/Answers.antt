@@ -1,15 +1,12 @@
-use Rattle.std.proofs.Common.{rules, ◌≡◌, ◌∙◌, ◌≤◌, ◌^◌, ℕ, ◌+◌, Bool, true, Err, None, List, [], ◌∷◌, ◌++◌, length, length-append, refl, sym, ap, subst, arith}
+use Rattle.std.proofs.Common.{rules, ◌≡◌, ◌∙◌, Err, None, List, [], ◌∷◌, ◌++◌, length, length-append, sym, ap, subst, arith}
 use Rattle.sc_book.specs.Books.{BookOf, IsBook, first_head}
 use Rattle.sc_book.specs.Keeping.{book_of}
 use Rattle.sc_book.specs.Receipts.{Acknowledges, IsAllOrMore}
 use Rattle.sc_core.specs.Commands.{answer}
 use Rattle.sc_core.specs.Histories.{Tells}
-use Rattle.sc_core.specs.Installing.{installed}
-use Rattle.sc_core.specs.declared.prepared.Prepared.{Prepared}
 use Rattle.sc_journal.specs.Stops.{LeavesOnly}
-use Rattle.sc_types.specs.declared.command.Command.{Command}
 use Rattle.sc_types.specs.declared.history.Entry.{Entry}
-use Rattle.sc_book.proofs.AnswerLemmas.{has_body, no_body, not_accepted, not_stored, same_book, stored}
+use Rattle.sc_book.proofs.AnswerLemmas.{has_body, no_body, not_accepted, not_stored, stored}
 use Rattle.sc_book.proofs.BookLemmas.{counted, during_none, during_store}
 use Rattle.sc_core.proofs.AcceptedLemmas.{refused_changes_nothing}
 use Rattle.sc_book.proofs.book.Book.answer.Goals as goal

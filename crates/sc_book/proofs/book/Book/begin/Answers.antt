@@ -1,5 +1,4 @@
-use Rattle.std.proofs.Common.{rules, arith, ◌≡◌, ℕ, ◌+◌, ◌^◌, ◌≤◌, Err, List, length, ap, subst}
-use Rattle.sc_book.specs.Openings.{IsFirstBad}
+use Rattle.std.proofs.Common.{rules, ◌≡◌, Err, length, ap}
 use Rattle.sc_book.proofs.OpenLemmas.{begun_as}
 use Rattle.sc_book.proofs.book.Book.begin.Goals as goal
 
@@ -10,12 +9,12 @@ invariant_of-result g c =
     let L = g.D.Disk.may_leave in
     let S = g.D.Disk.may_have_left in
     let M = g.D.Disk.moment in
-    let bodies = c.args.opened.bodies.items in
+    let bodies = c.args.opened.bodies in
     let r = c.in-Ok.ensures in
-    let long : c.len.result ≡ length bodies = search rules in
+    let long : c.len-count.result ≡ length bodies = search rules in
     let first : c.args.opened.first ≡ 1 = r.first in
-    let opened = begun_as T L S M laws.only_now bodies c.as_slice.result.now c.in-Ok.host c.len.result c.moment-start.result
-    c.args.opened.first c.new.result c.args.opened.journal c.as_slice.ensures.value r.ok long c.moment-start.ensures
+    let opened = begun_as T L S M laws.only_now bodies c.in-Ok.host c.len-count.result c.moment-start.result
+    c.args.opened.first c.new.result c.args.opened.journal r.ok long c.moment-start.ensures
     c.new.ensures.history c.new.ensures.moments c.new.ensures.doubts c.requires.settled first c.requires.next c.requires.keeps in
     record { past = opened.past; is = opened.book }
 
@@ -26,16 +25,14 @@ returns-in-Ok-clause-opened g c =
     let L = g.D.Disk.may_leave in
     let S = g.D.Disk.may_have_left in
     let M = g.D.Disk.moment in
-    let bodies = c.args.opened.bodies.items in
+    let bodies = c.args.opened.bodies in
     let r = c.in-Ok.ensures in
-    let long : c.len.result ≡ length bodies = search rules in
+    let long : c.len-count.result ≡ length bodies = search rules in
     let first : c.args.opened.first ≡ 1 = r.first in
-    let opened = begun_as T L S M laws.only_now bodies c.as_slice.result.now c.in-Ok.host c.len.result c.moment-start.result
-    c.args.opened.first c.new.result c.args.opened.journal c.as_slice.ensures.value r.ok long c.moment-start.ensures
+    let opened = begun_as T L S M laws.only_now bodies c.in-Ok.host c.len-count.result c.moment-start.result
+    c.args.opened.first c.new.result c.args.opened.journal r.ok long c.moment-start.ensures
     c.new.ensures.history c.new.ensures.moments c.new.ensures.doubts c.requires.settled first c.requires.next c.requires.keeps in
     opened
 
-pub returns-clause-bad : goal.returns-clause-bad
-returns-clause-bad g c = λ n is.
-    let bad = c.in-Err.ensures.bad n (ap Err is) in
-    (bad.0, subst (λ (bs : List (List ℕ)). IsFirstBad bs n) c.as_slice.ensures.value bad.1)
+pub returns-in-Err-clause-bad : goal.returns-in-Err-clause-bad
+returns-in-Err-clause-bad g c = λ n is. c.in-Err.ensures.bad n (ap Err is)

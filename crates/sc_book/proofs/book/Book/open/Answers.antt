@@ -1,4 +1,4 @@
-use Rattle.std.proofs.Common.{◌≡◌, ◌∙◌, inr, ℕ, List, length, ap, subst}
+use Rattle.std.proofs.Common.{◌∙◌, inr, ℕ, List, length, ap, subst}
 use Rattle.sc_dev.specs.Disks.{DiskOf}
 use Rattle.sc_book.specs.Openings.{IsFirstBad, IsReplayed}
 use Rattle.sc_book.proofs.OpenLemmas.{both_ways, err_both, err_more, no_place, none_bad, ok_more, other_first, stands_accepted, stands_same}
@@ -40,7 +40,7 @@ returns-in-Ok-clause-damaged g c = λ told.
     (λ f other at is. let found = other at is in
     inr (
       found.0,
-      other_first T L S M laws.only_now j (g.D.Disk.reads c.args.disk) _ c.in-Ok.opened.bodies.items (o.keeps told)
+      other_first T L S M laws.only_now j (g.D.Disk.reads c.args.disk) _ c.in-Ok.opened.bodies (o.keeps told)
           o.settled stands found.1,
     ))
     c.begin.ensures.other
@@ -49,7 +49,7 @@ pub returns-in-Ok-clause-bad : goal.returns-in-Ok-clause-bad
 returns-in-Ok-clause-bad g c = λ told.
     err_more c.begin.result _ _
     (λ f bad n is. record {
-      bodies = c.in-Ok.opened.bodies.items;
+      bodies = c.in-Ok.opened.bodies;
       held = c.in-Ok.ensures.bodies told;
       first = (bad n is).1;
     })

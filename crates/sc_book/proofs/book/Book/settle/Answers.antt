@@ -1,4 +1,4 @@
-use Rattle.std.proofs.Common.{◌≡◌, ℕ, List, inl, inr, sym, subst}
+use Rattle.std.proofs.Common.{inl, inr, sym, subst}
 use Rattle.sc_book.specs.Books.{BookOf, IsBook, first_head}
 use Rattle.sc_book.specs.Keeping.{book_of}
 use Rattle.sc_book.specs.Receipts.{IsAllOrDoubted}
