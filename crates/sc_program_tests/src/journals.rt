@@ -1,3 +1,5 @@
+ghost use Rattle.std.specs.Prelude.{◌≤◌, length};
+
 // What the words do on journals: a new one, none, one that was cut, and one that was worked on before.
 use crate::program::{RUN, call_on, created, empty};
 use crate::rows::ONE_LOG;
@@ -43,7 +45,10 @@ fn an_empty_script_journals_nothing(rt: HostRuntime) -> Result<(), Fail> {
 }
 
 /// A disk whose journal has these bytes.
-fn with_journal(alloc: Global, bytes: &[u8]) -> Result<MemDisk, Fail> {
+fn with_journal(alloc: Global, bytes: &[u8]) -> Result<MemDisk, Fail>
+    requires some { 1 ≤ length bytes.now }
+    requires few { length bytes.now ≤ 100 }
+{
     let mut disk = empty(alloc, &[])?;
     disk.write_at(Part::Journal, 0, bytes)?;
     disk.sync(Part::Journal)?;

@@ -57,7 +57,12 @@ fn is_told(
 }
 
 /// Whether it tells so where the machine stopped and these bytes are there.
-fn is_told_after_stop(alloc: Global, row: &Row, run: &Stopped, fill: &[u8]) -> Result<bool, NoMemory>
+fn is_told_after_stop(
+    alloc: Global,
+    row: &Row,
+    run: &Stopped,
+    fill: &[u8],
+) -> Result<bool, NoMemory>
     requires { 0 < length fill.now }
 {
     let mut left = run.disk.crash(fill, 1000)?;
