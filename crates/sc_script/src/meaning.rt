@@ -34,35 +34,20 @@ pub(crate) enum Meaning {
     Asks(Command),
 }
 
-const FORMS: [Form; 7] = [
-    Form::Post,
-    Form::Start,
-    Form::Chart,
-    Form::Tick,
-    Form::Cancel,
-    Form::Client,
-    Form::Blank,
-];
-
-/// The first word of the lines of a form.
-fn form_word(form: Form) -> &'static [u8]
-    ensures { result.now ≡ form_word form }
-{
-    match form {
-        Form::Post => b"post",
-        Form::Start => b"start",
-        Form::Chart => b"chart",
-        Form::Tick => b"tick",
-        Form::Cancel => b"cancel",
-        Form::Client => b"client",
-        Form::Blank => b"",
-    }
-}
-
+/// The form of the lines that begin with this word.
 fn form_of(word: &[u8]) -> Option<Form>
     ensures { result ≡ form_of word.now }
 {
-    FORMS.iter().copied().find(|form| word == form_word(*form))
+    match word {
+        b"post" => Some(Form::Post),
+        b"start" => Some(Form::Start),
+        b"chart" => Some(Form::Chart),
+        b"tick" => Some(Form::Tick),
+        b"cancel" => Some(Form::Cancel),
+        b"client" => Some(Form::Client),
+        b"" => Some(Form::Blank),
+        _ => None,
+    }
 }
 
 /// What a line says.

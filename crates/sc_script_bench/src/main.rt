@@ -11,6 +11,9 @@ use std::alloc::Global;
 use std::io::{Read, Write};
 use std::{env, io};
 
+/// How many bytes of the input are read at once.
+const PART: usize = 65_536;
+
 #[derive(Drop)]
 enum Asked {
     Count,
@@ -42,6 +45,21 @@ fn read_words(rt: &HostRuntime) -> io::Result<Asked> {
         "generate" => Asked::Generate(number(words.next()), size(words.next())),
         _ => Asked::Count,
     })
+}
+
+/// All of the input, by parts. `read_to_end` writes zeros over the room for each part first.
+fn read_input(rt: &HostRuntime) -> io::Result<Vec<u8>> {
+    let mut text = Vec::new(rt.alloc());
+    let mut part = vec![in rt.alloc(); 0u8; PART]?;
+    let mut input = rt.stdin();
+    for _ in 0..u64::MAX {
+        let count = input.read(part.as_mut_slice())?;
+        if count == 0 {
+            break;
+        }
+        text.extend_from_slice(&part[..count])?;
+    }
+    Ok(text)
 }
 
 fn answer(
@@ -81,8 +99,7 @@ fn main(rt: HostRuntime) -> io::Result<()> {
             Err(NoMemory) => (Err(Failure::NoMemory), true),
         },
         asked => {
-            let mut text = Vec::new(alloc);
-            rt.stdin().read_to_end(&mut text)?;
+            let text = read_input(&rt)?;
             let listed = match asked {
                 Asked::List => true,
                 _ => false,
