@@ -23,7 +23,7 @@ pub(crate) fn read_pairs(alloc: Global, text: &[u8]) -> Result<PairList, Failure
     while !rest.is_empty() {
         let (piece, behind) = cut_piece(rest);
         if !piece.is_empty() {
-            make_room(alloc, &mut pairs, behind)?;
+            pairs = with_room(alloc, pairs, behind)?;
             put_pair(alloc, &mut pairs, piece)?;
         }
         rest = behind;
@@ -31,16 +31,17 @@ pub(crate) fn read_pairs(alloc: Global, text: &[u8]) -> Result<PairList, Failure
     Ok(pairs)
 }
 
-/// Before the first pair, takes just the memory for it and for those of the text behind it, so that none is moved and
-/// none has memory to spare.
-fn make_room(alloc: Global, pairs: &mut PairList, behind: &[u8]) -> Result<(), NoMemory>
-    ensures { OnOk result (pairs.new ≡ pairs.old) }
+/// The same pairs. Before the first one, with just the memory for it and for those of the text behind it, so that none
+/// is moved and none has memory to spare.
+fn with_room(alloc: Global, pairs: PairList, behind: &[u8]) -> Result<PairList, NoMemory>
+    ensures { IfOk result (λ ps. ps ≡ pairs) }
 {
     if pairs.is_empty() {
         let count = count_pieces(behind).saturating_add(1);
-        *pairs = Sequence::from_vec(Vec::with_capacity(alloc, count)?);
+        Ok(Sequence::from_vec(Vec::with_capacity(alloc, count)?))
+    } else {
+        Ok(pairs)
     }
-    Ok(())
 }
 
 /// Puts the pair that a piece is at the end.
