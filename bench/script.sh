@@ -2,8 +2,9 @@
 # How fast scripts are read, in processor time, and how much memory that takes beside the text, for lines of four
 # lengths. Run `rt run` in crates/sc_script_bench first, or name another program on the command line.
 # The time of a megabyte is that of a script of 64 MB less that of one of 4 MB, over the difference, each the least of
-# five runs; the memory is the most that is in use at 64 MB, less the text. The last figure is the time of a script of
-# 16 MiB over that of 64 runs on one of 256 KiB, each less the same number of runs on no text.
+# five runs, with the input read and the commands made, and without giving them back. The memory is the most that is in
+# use at 64 MB, less the text. The last figure is the time of a script of 16 MiB over that of 64 runs on one of 256 KiB,
+# each less the same number of runs on no text.
 cd "$(dirname "$0")/.." || exit 1
 program=${1:-$PWD/crates/sc_script_bench/out/sc_script_bench}
 folder=$(mktemp -d)

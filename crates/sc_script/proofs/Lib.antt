@@ -1,3 +1,4 @@
+pub mod AsciiLemmas
 pub mod CutInOneWay
 pub mod CutLemmas
 pub mod DrawnLemmas

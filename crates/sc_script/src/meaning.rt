@@ -1,4 +1,5 @@
-ghost use Rattle.std.specs.Prelude.{◌≡◌, Ok, Err, Some, IfOk};
+ghost use Rattle.std.specs.Prelude.{◌≡◌, Ok, Err, Some, IfOk, IsTrue};
+ghost use Rattle.std.specs.Str.{IsAscii, is_utf8};
 ghost use Rattle.sc_script.specs.declared.fault.Cause.{Cause};
 ghost use Rattle.sc_script.specs.Meanings.{chart_line, start_line, post_line, tick_line, cancel_line, client_line, form_word, form_of, said, words_say, meaning};
 
@@ -34,44 +35,39 @@ pub(crate) enum Meaning {
     Asks(Command),
 }
 
-const FORMS: [Form; 7] = [
-    Form::Post,
-    Form::Start,
-    Form::Chart,
-    Form::Tick,
-    Form::Cancel,
-    Form::Client,
-    Form::Blank,
-];
-
-/// The first word of the lines of a form.
-fn form_word(form: Form) -> &'static [u8]
-    ensures { result.now ≡ form_word form }
-{
-    match form {
-        Form::Post => b"post",
-        Form::Start => b"start",
-        Form::Chart => b"chart",
-        Form::Tick => b"tick",
-        Form::Cancel => b"cancel",
-        Form::Client => b"client",
-        Form::Blank => b"",
-    }
-}
-
+/// The form of the lines that begin with this word.
 fn form_of(word: &[u8]) -> Option<Form>
     ensures { result ≡ form_of word.now }
 {
-    FORMS.iter().copied().find(|form| word == form_word(*form))
+    match word {
+        b"post" => Some(Form::Post),
+        b"start" => Some(Form::Start),
+        b"chart" => Some(Form::Chart),
+        b"tick" => Some(Form::Tick),
+        b"cancel" => Some(Form::Cancel),
+        b"client" => Some(Form::Client),
+        b"" => Some(Form::Blank),
+        _ => None,
+    }
 }
 
-/// What a line says.
+/// Whether a line is UTF-8, which is not looked at again where it is known to be ASCII.
+#[tactic(auto, using(crate::proofs::AsciiLemmas::ascii_utf8))]
+fn is_utf8_line(line: &[u8], ascii: bool) -> bool
+    requires { IsTrue ascii → IsAscii line.now }
+    ensures { result ≡ is_utf8 line.now }
+{
+    ascii || is_utf8(line)
+}
+
+/// What a line says. It is ASCII where that is known.
 #[tactic(auto, unfolding(crate::specs::Meanings::meaning))]
-pub(crate) fn read_line(alloc: Global, line: &[u8]) -> Result<Meaning, Failure<Cause>>
+pub(crate) fn read_line(alloc: Global, line: &[u8], ascii: bool) -> Result<Meaning, Failure<Cause>>
+    requires { IsTrue ascii → IsAscii line.now }
     ensures ok { IfOk result (λ m. meaning line.now ≡ Ok m) }
     ensures fault { (cause : Cause) → result ≡ Err (Failure.Fault cause) → meaning line.now ≡ Err cause }
 {
-    if !is_utf8(line) {
+    if !is_utf8_line(line, ascii) {
         return Err(Failure::Fault(Cause::NotUtf8));
     }
     read_words(alloc, trimmed(without_return(line)))

@@ -1,4 +1,4 @@
-ghost use Rattle.std.specs.Prelude.{◌≡◌, ◌<◌, ◌==◌, Some, None, Ok, Err, IfOk, IfSome, length};
+ghost use Rattle.std.specs.Prelude.{◌≡◌, ◌<◌, ◌==◌, ◌∷◌, ◌++◌, [], Some, None, Ok, Err, IfOk, OnOk, IfSome, option_map, length};
 ghost use Rattle.std.specs.List.{position};
 ghost use Rattle.sc_types.specs.Values.{literal_value};
 ghost use Rattle.sc_script.specs.declared.fault.Cause.{Cause};
@@ -24,7 +24,7 @@ pub(crate) fn read_pairs(alloc: Global, text: &[u8]) -> Result<PairList, Failure
         let (piece, behind) = cut_piece(rest);
         if !piece.is_empty() {
             pairs = with_room(alloc, pairs, behind)?;
-            pairs.push(read_pair(alloc, piece)?)?;
+            put_pair(alloc, &mut pairs, piece)?;
         }
         rest = behind;
     }
@@ -44,15 +44,15 @@ fn with_room(alloc: Global, pairs: PairList, behind: &[u8]) -> Result<PairList, 
     }
 }
 
-/// The pair that a piece is.
-fn read_pair(alloc: Global, text: &[u8]) -> Result<(PlainName, Value), Failure<Cause>>
-    ensures ok { IfOk result (λ p. pair_of text.now ≡ Some p) }
+/// Puts the pair that a piece is at the end.
+fn put_pair(alloc: Global, pairs: &mut PairList, text: &[u8]) -> Result<(), Failure<Cause>>
+    ensures ok { OnOk result (option_map (λ p. pairs.old ++ p ∷ []) (pair_of text.now) ≡ Some pairs.new) }
     ensures fault { (cause : Cause) → result ≡ Err (Failure.Fault cause)
         → (cause ≡ Cause.BadValue) × (pair_of text.now ≡ None) }
 {
     match place_of(text, b'=') {
         None => Err(Failure::Fault(Cause::BadValue)),
-        Some(place) => read_named(alloc, &text[..place], &text[place + 1..]),
+        Some(place) => put_named(alloc, pairs, &text[..place], &text[place + 1..]),
     }
 }
 
@@ -64,17 +64,23 @@ fn place_of(text: &[u8], byte: u8) -> Option<usize>
 }
 
 #[tactic(auto, using(sc_base::proofs::NameTests::plain_tests))]
-fn read_named(
+fn put_named(
     alloc: Global,
+    pairs: &mut PairList,
     name: &[u8],
     literal: &[u8],
-) -> Result<(PlainName, Value), Failure<Cause>>
-    ensures ok { IfOk result (λ p. named name.now (literal_value literal.now) ≡ Some p) }
+) -> Result<(), Failure<Cause>>
+    ensures ok { OnOk result
+        (option_map (λ p. pairs.old ++ p ∷ []) (named name.now (literal_value literal.now)) ≡ Some pairs.new) }
     ensures fault { (cause : Cause) → result ≡ Err (Failure.Fault cause)
         → (cause ≡ Cause.BadValue) × (named name.now (literal_value literal.now) ≡ None) }
 {
     match PlainName::of(alloc, name) {
-        Ok(name) => Ok((name, read_literal(alloc, literal)?)),
+        Ok(name) => {
+            let value = read_literal(alloc, literal)?;
+            pairs.push((name, value))?;
+            Ok(())
+        }
         Err(Unfit::Form) => Err(Failure::Fault(Cause::BadValue)),
         Err(Unfit::NoMemory) => Err(Failure::NoMemory),
     }

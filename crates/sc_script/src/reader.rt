@@ -1,4 +1,5 @@
-ghost use Rattle.std.specs.Prelude.{◌≡◌, ◌+◌, ◌<◌, [], ◌∷◌, ◌++◌, List, ℕ, suc, Ok, Err, IfOk, OnOk, length};
+ghost use Rattle.std.specs.Prelude.{◌≡◌, ◌+◌, ◌<◌, [], ◌∷◌, ◌++◌, List, ℕ, suc, Ok, Err, IfOk, OnOk, IsTrue, length};
+ghost use Rattle.std.specs.Str.{IsAscii};
 ghost use Rattle.sc_script.specs.Joined.{joins, joined};
 ghost use Rattle.sc_script.specs.Meanings.{meaning};
 ghost use Rattle.sc_script.specs.OneWay.{IsCutInOneWay};
@@ -6,7 +7,7 @@ ghost use Rattle.sc_script.specs.Scripts.{Spelled, empty_script, line_script, sc
 ghost use Rattle.sc_script.specs.declared.fault.ScriptFault.{ScriptFault};
 
 use crate::fault::{Cause, ScriptFault, ScriptRefusal};
-use crate::lines::cut_line;
+use crate::lines::{cut_line, is_ascii};
 use crate::meaning::{Meaning, read_line};
 use crate::script::Script;
 use sc_base::Failure;
@@ -23,13 +24,14 @@ pub fn read_script(alloc: Global, text: &[u8]) -> Result<Script, ScriptRefusal>
     if text.len() > SCRIPT_TEXT_LIMIT {
         return Err(fault(0, Cause::TooLarge));
     }
+    let ascii = is_ascii(text);
     let mut reading = Reading::new(alloc);
     let mut rest = text;
     let mut number = 0;
     while !rest.is_empty() {
         let (line, behind) = cut_line(rest);
         number += 1;
-        reading.take_line(alloc, number, line)?;
+        reading.take_line(alloc, number, line, ascii)?;
         rest = behind;
     }
     Ok(reading.into_script(alloc)?)
@@ -60,15 +62,22 @@ impl Reading {
         }
     }
 
-    /// Reads the line of this number.
-    fn take_line(&mut self, alloc: Global, number: u32, line: &[u8]) -> Result<(), ScriptRefusal>
+    /// Reads the line of this number, which is ASCII where that is known.
+    fn take_line(
+        &mut self,
+        alloc: Global,
+        number: u32,
+        line: &[u8],
+        ascii: bool,
+    ) -> Result<(), ScriptRefusal>
+        requires { IsTrue ascii → IsAscii line.now }
         ensures ok { OnOk result ((more : List (List ℕ)) →
             joins self.old (script_from number (length self.old.closed) (line.now ∷ more))
             ≡ joins self.new (script_from (suc number) (length self.new.closed) more)) }
         ensures fault { (f : ScriptFault) → result ≡ Err (Failure.Fault f)
             → (more : List (List ℕ)) → script_from number (length self.old.closed) (line.now ∷ more) ≡ Err f }
     {
-        match read_line(alloc, line) {
+        match read_line(alloc, line, ascii) {
             Ok(meaning) => self.add(alloc, number, meaning),
             Err(Failure::Fault(cause)) => Err(fault(number, cause)),
             Err(Failure::NoMemory) => Err(Failure::NoMemory),

@@ -9,7 +9,10 @@ use sc_base::{Failure, NoMemory, TextWriter};
 use sc_script::{Script, ScriptRefusal, generate, read_script};
 use std::alloc::Global;
 use std::io::{Read, Write};
-use std::{env, io};
+use std::{env, io, mem};
+
+/// How many bytes of the input are read at once.
+const PART: usize = 65_536;
 
 #[derive(Drop)]
 enum Asked {
@@ -44,19 +47,34 @@ fn read_words(rt: &HostRuntime) -> io::Result<Asked> {
     })
 }
 
+/// All of the input, by parts. `read_to_end` writes zeros over the room for each part first.
+fn read_input(rt: &HostRuntime) -> io::Result<Vec<u8>> {
+    let mut text = Vec::new(rt.alloc());
+    let mut part = vec![in rt.alloc(); 0u8; PART]?;
+    let mut input = rt.stdin();
+    for _ in 0..u64::MAX {
+        let count = input.read(part.as_mut_slice())?;
+        if count == 0 {
+            break;
+        }
+        text.extend_from_slice(&part[..count])?;
+    }
+    Ok(text)
+}
+
 fn answer(
     alloc: Global,
-    script: Result<Script, ScriptRefusal>,
+    script: &Result<Script, ScriptRefusal>,
     listed: bool,
 ) -> Result<TextWriter, NoMemory> {
     let mut out = TextWriter::new(alloc);
     match script {
         Ok(script) => {
             out.text("ok ")?;
-            out.number(listing::count(&script) as u128)?;
+            out.number(listing::count(script) as u128)?;
             out.end_line()?;
             if listed {
-                listing::put_script(&mut out, &script)?;
+                listing::put_script(&mut out, script)?;
             }
         }
         Err(Failure::Fault(fault)) => {
@@ -81,8 +99,7 @@ fn main(rt: HostRuntime) -> io::Result<()> {
             Err(NoMemory) => (Err(Failure::NoMemory), true),
         },
         asked => {
-            let mut text = Vec::new(alloc);
-            rt.stdin().read_to_end(&mut text)?;
+            let text = read_input(&rt)?;
             let listed = match asked {
                 Asked::List => true,
                 _ => false,
@@ -90,8 +107,10 @@ fn main(rt: HostRuntime) -> io::Result<()> {
             (read_script(alloc, text.as_slice()), listed)
         }
     };
-    if let Ok(out) = answer(alloc, script, listed) {
+    if let Ok(out) = answer(alloc, &script, listed) {
         rt.stdout().write_all(out.slice())?;
     }
+    // The end of the process gives its memory back: what is timed is reading.
+    mem::forget(script);
     Ok(())
 }
