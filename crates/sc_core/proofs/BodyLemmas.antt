@@ -6,7 +6,9 @@ use Rattle.sc_types.specs.declared.event.Event.{Event}
 use Rattle.sc_types.specs.declared.host.SessionImage.{SessionImage}
 use Rattle.sc_base.specs.Ascending.{with_number}
 use Rattle.sc_core.specs.Bodies.{cued, marked}
-use Rattle.sc_core.specs.Cues.{is_ready, waiting_cue}
+use Rattle.sc_core.specs.Cues.{cue_in, is_ready, waiting_cue}
+use Rattle.sc_types.specs.declared.session.Phase.{Phase}
+use Rattle.sc_types.specs.declared.session.Phase.TheVariants as phase
 
 positive : (n : ℕ) → nat_lt 0 (suc n) ≡ true
 positive n = grind (arith, nat_tests)
@@ -32,6 +34,16 @@ waits_in xs ys true [] = any_flagged (xs ++ ys)
 waits_in xs (y ∷ ys) false [] = rw (positive (length ys)) (any_front xs y ys)
 waits_in (x ∷ xs) [] false [] = rw (positive (length xs)) refl
 waits_in [] [] false [] = refl
+
+-- an event that joins others changes no cue
+pub cued_on : (p : Phase) (es : List Event) (flagged : Bool) (zs more : List Event) → 0 < length zs
+    → is_some (cue_in p es flagged (zs ++ more)) ≡ is_some (cue_in p es flagged zs)
+cued_on p es f [] more some = absurd (omega (arith, some))
+cued_on phase.Fresh es f (z ∷ zs) more some = refl
+cued_on (phase.Ended how) es f (z ∷ zs) more some = refl
+cued_on phase.Running (e ∷ es) f (z ∷ zs) more some = refl
+cued_on phase.Running [] true (z ∷ zs) more some = refl
+cued_on phase.Running [] false (z ∷ zs) more some = refl
 
 -- the first index at which the test passes after f
 pub position_map : {X Y : Type 0} (p : Y → Bool) (f : X → Y) (xs : List X) → position p (map f xs) ≡ position (λ x. p (f x)) xs

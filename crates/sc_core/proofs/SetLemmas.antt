@@ -92,6 +92,24 @@ set_session h place s w ready events timers op agrees at name queued failures pl
       };
     }
 
+-- a place stays as it was marked, where the session at it has a cue as before
+pub stays_marked : {P : Type 0} (h : Body P) (place : ℕ) (s : Session) (was b : Bool) → Agrees h
+    → slice_get h.sessions.items place ≡ Some s → was ≡ is_ready (session_image s) → was ≡ b
+    → marked b place h.ready.places ≡ h.ready.places
+stays_marked h place s was b agrees at cue same =
+    let items = h.sessions.items in
+    let images = map session_image items in
+    let first : place ≡ 0 + place = omega arith in
+    let kept : slice_set images place (session_image s) ≡ images =
+    sym (map-set session_image items place s)
+    ∙ map-set_same session_image items place s s (ap session_image (sym (get_or_from_slice_get items place s s at))) in
+    let cues : marked (is_ready (session_image s)) place (cued 0 images) ≡ cued 0 images =
+    ap (λ n. marked (is_ready (session_image s)) n (cued 0 images)) first
+    ∙ sym (cued_set 0 place images (session_image s) (slice_get_within _ _ _ (image_at items place s at)))
+    ∙ ap (λ ss. cued 0 ss) kept in
+    subst (λ r. marked r place h.ready.places ≡ h.ready.places) (sym cue ∙ same)
+    (subst (λ ps. marked (is_ready (session_image s)) place ps ≡ ps) (sym agrees.ready) cues)
+
 -- a session that is cut off was invoked by the same
 pub cut_invited : (o : Option InvokerImage)
     → option_map (λ (i : InvokerImage). i.session) (option_map (λ (i : InvokerImage). record i { cut = true }) o)

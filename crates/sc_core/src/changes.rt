@@ -23,6 +23,18 @@ pub(crate) fn mark(ready: &mut Places, place: usize, is_ready: bool)
     }
 }
 
+/// The same where a place was marked already as it `was`: most changes leave a session ready that is ready.
+fn mark_anew(ready: &mut Places, place: usize, was: bool, is_ready: bool)
+    requires same { was ≡ is_ready → marked is_ready place ready.old.places ≡ ready.old.places }
+    requires room { 0 < ready.old.spare }
+    ensures places { ready.new.places ≡ marked is_ready place ready.old.places }
+    ensures room { ready.old.spare ≤ ready.new.spare + 1 }
+{
+    if was != is_ready {
+        mark(ready, place, is_ready);
+    }
+}
+
 impl<P: Drop> Body<P> {
     /// Puts an event into the external queue of the session at a place.
     pub(crate) fn queue(&mut self, place: usize, mut event: Event)
@@ -36,10 +48,15 @@ impl<P: Drop> Body<P> {
     {
         let number = self.events + 1;
         event.number = number;
-        let session = self.sessions.item_mut(place);
-        session.queued.push(event);
-        mark(&mut self.ready, place, is_ready(session));
         self.events = number;
+        let session = self.sessions.item_mut(place);
+        let before = session.queued.len();
+        session.queued.push(event);
+        // Behind other events it changes no cue.
+        if before > 0 {
+            return;
+        }
+        mark(&mut self.ready, place, is_ready(session));
     }
 
     /// Puts an event into the internal queue of the session at a place.
@@ -66,9 +83,10 @@ impl<P: Drop> Body<P> {
         ensures charts { self.new.charts.items ≡ self.old.charts.items }
     {
         let session = self.sessions.item_mut(place);
+        let was = is_ready(session);
         session.failures.clear();
         replace_state(&mut session.state, state);
-        mark(&mut self.ready, place, is_ready(session));
+        mark_anew(&mut self.ready, place, was, is_ready(session));
     }
 
     /// Takes the front of the external queue of the session at a place.
@@ -80,8 +98,9 @@ impl<P: Drop> Body<P> {
         ensures charts { self.new.charts.items ≡ self.old.charts.items }
     {
         let session = self.sessions.item_mut(place);
+        let was = is_ready(session);
         let _ = session.queued.pop_front();
-        mark(&mut self.ready, place, is_ready(session));
+        mark_anew(&mut self.ready, place, was, is_ready(session));
     }
 
     /// Lets the next turn of the session at a place end it.
@@ -93,6 +112,9 @@ impl<P: Drop> Body<P> {
         ensures charts { self.new.charts.items ≡ self.old.charts.items }
     {
         let session = self.sessions.item_mut(place);
+        if session.flagged {
+            return;
+        }
         session.flagged = true;
         mark(&mut self.ready, place, is_ready(session));
     }

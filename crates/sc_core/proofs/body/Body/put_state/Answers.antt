@@ -2,7 +2,7 @@ use Rattle.std.proofs.Common.{append-nil, ap, sym, arith, ◌∙◌, refl}
 use Rattle.sc_types.specs.declared.session.SessionState.{SessionState}
 use Rattle.sc_core.specs.Bodies.{image, marked, session_image}
 use Rattle.sc_core.specs.Hosts.{with_session}
-use Rattle.sc_core.proofs.SetLemmas.{name_at, set_session}
+use Rattle.sc_core.proofs.SetLemmas.{name_at, set_session, stays_marked}
 use Rattle.sc_core.proofs.body.Body.put_state.Goals as goal
 
 pub returns-clause-makes : goal.returns-clause-makes
@@ -14,8 +14,13 @@ returns-clause-makes g c =
     c.requires.agrees c.item_mut-session.ensures.value
     (ap (λ (x : SessionState). x.session) c.replace_state.ensures
     ∙ name_at h c.args.place s c.args.state.session c.requires.agrees c.item_mut-session.ensures.value c.requires.name)
-    (omega arith) (omega (arith, c.clear.ensures.spare)) (c.mark.ensures.places ∙ ap (λ b. marked b c.args.place h.ready.places) c.is_ready.ensures)
-    c.mark.ensures.room (omega arith) refl refl
+    (omega arith) (omega (arith, c.clear.ensures.spare)) (c.mark_anew.ensures.places ∙ ap (λ b. marked b c.args.place h.ready.places) c.is_ready.ensures)
+    c.mark_anew.ensures.room (omega arith) refl refl
     (rw (c.replace_state.ensures, c.clear.ensures.items) (ap
     (λ es. with_session (image h) c.args.place (record (session_image s) { state = record c.args.state { internal = es } }))
     (sym (append-nil c.args.state.internal))))
+
+pub mark_anew-requires-clause-same : goal.mark_anew-requires-clause-same
+mark_anew-requires-clause-same g c = λ same.
+    stays_marked c.args.self.now c.args.place c.item_mut-session.result.now _ _ c.requires.agrees
+    c.item_mut-session.ensures.value c.is_ready-was.ensures same
