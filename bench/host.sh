@@ -32,6 +32,11 @@ compare start 400000
 # Each round of `fire` delays a send and lets one come due.
 compare fire 400000
 
+# A post, the step in which the session invokes another, the step that ends that one, and the step that hears of it.
+for few in 10 1000 10000; do
+    echo "invoke: $(each invoke $few 100000) ns with $few sessions"
+done
+
 kilobytes() { # LINE
     echo "$1" | command time -f %M "$program" 2>&1 > /dev/null
 }

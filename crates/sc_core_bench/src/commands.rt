@@ -7,6 +7,13 @@ use std::alloc::Global;
 const CHART: &str =
     r#"{"tag":"scxml","kids":[{"tag":"datamodel","kids":[{"tag":"data","id":"n","expr":"0"}]},{"tag":"state","id":"s","kids":[{"tag":"onentry","kids":[{"tag":"send","event":"due","delay":"1000000ms"}]},{"tag":"transition","event":"go","kids":[{"tag":"assign","location":"n","expr":"n + 1"}]},{"tag":"transition","event":"later","kids":[{"tag":"send","event":"due","delay":"1ms"}]}]}]}"#;
 
+/// A chart that invokes a session at each `call`, and waits for its end.
+const INVOKER: &str =
+    r#"{"tag":"scxml","kids":[{"tag":"state","id":"a","kids":[{"tag":"transition","event":"call","target":"b"}]},{"tag":"state","id":"b","kids":[{"tag":"invoke","id":"child","src":"k"},{"tag":"transition","event":"done.invoke.child","target":"a"}]}]}"#;
+
+/// What it invokes, which ends at its first step.
+const CHILD: &str = r#"{"tag":"scxml","kids":[{"tag":"final","id":"end"}]}"#;
+
 fn name_of(alloc: Global, number: u32) -> Result<Word, NoMemory> {
     let mut out = TextWriter::new(alloc);
     out.text("s")?;
@@ -24,10 +31,37 @@ fn word(alloc: Global, text: &[u8]) -> Result<Word, NoMemory> {
     }
 }
 
-pub fn install(alloc: Global) -> Result<Command, NoMemory> {
+fn installed(alloc: Global, name: &[u8], chart: &str) -> Result<Command, NoMemory> {
     Ok(Command::Install {
-        name: word(alloc, b"c")?,
-        chart: Bytes::from_slice(alloc, CHART.as_bytes())?,
+        name: word(alloc, name)?,
+        chart: Bytes::from_slice(alloc, chart.as_bytes())?,
+    })
+}
+
+pub fn install(alloc: Global) -> Result<Command, NoMemory> {
+    installed(alloc, b"c", CHART)
+}
+
+pub fn install_invoker(alloc: Global) -> Result<Command, NoMemory> {
+    installed(alloc, b"v", INVOKER)
+}
+
+pub fn install_child(alloc: Global) -> Result<Command, NoMemory> {
+    installed(alloc, b"k", CHILD)
+}
+
+pub fn start_invoker(alloc: Global) -> Result<Command, NoMemory> {
+    Ok(Command::Start {
+        session: word(alloc, b"v")?,
+        chart: word(alloc, b"v")?,
+    })
+}
+
+pub fn call(alloc: Global) -> Result<Command, NoMemory> {
+    Ok(Command::Post {
+        session: word(alloc, b"v")?,
+        event: word(alloc, b"call")?,
+        pairs: Sequence::new(alloc),
     })
 }
 

@@ -1,4 +1,4 @@
-use sc_base::NoMemory;
+use sc_base::{NoMemory, Plain};
 use sc_core::HostState;
 use sc_turn::Compiled;
 use sc_types::Command;
@@ -14,4 +14,22 @@ pub fn make(host: &mut HostState<Compiled>, command: &Command) -> Result<(), NoM
     let mut prepared = host.prepare(&Compiled, command)?;
     host.install(&mut prepared);
     Ok(())
+}
+
+/// The step of the session that is ready.
+fn ready_step(host: &HostState<Compiled>) -> Result<Option<Command>, NoMemory> {
+    match host.ready_session() {
+        Some(session) => Ok(Some(Command::Step {
+            session: session.copy()?,
+        })),
+        None => Ok(None),
+    }
+}
+
+/// Lets the session step that is ready.
+pub fn step_ready(host: &mut HostState<Compiled>) -> Result<(), NoMemory> {
+    match ready_step(host)? {
+        Some(command) => make(host, &command),
+        None => Ok(()),
+    }
 }

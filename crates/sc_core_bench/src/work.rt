@@ -1,5 +1,7 @@
-use crate::commands::{cancel, install, post, start, step};
-use crate::host::make;
+use crate::commands::{
+    call, cancel, install, install_child, install_invoker, post, start, start_invoker, step,
+};
+use crate::host::{make, step_ready};
 use sc_base::NoMemory;
 use sc_core::HostState;
 use sc_turn::Compiled;
@@ -31,6 +33,23 @@ fn fire(alloc: Global, host: &mut HostState<Compiled>, session: u32) -> Result<(
     make(host, &step(alloc, session)?)
 }
 
+/// Starts a session that invokes others.
+fn begin_invoker(alloc: Global, host: &mut HostState<Compiled>) -> Result<(), NoMemory> {
+    make(host, &install_child(alloc)?)?;
+    make(host, &install_invoker(alloc)?)?;
+    make(host, &start_invoker(alloc)?)?;
+    step_ready(host)
+}
+
+/// Lets that session invoke another, lets the other end, and lets the first hear of it.
+fn invoke(alloc: Global, host: &mut HostState<Compiled>) -> Result<(), NoMemory> {
+    make(host, &call(alloc)?)?;
+    for _ in 0..3 {
+        step_ready(host)?;
+    }
+    Ok(())
+}
+
 /// One round of a kind of command; the session is one of those that were begun.
 fn round(
     alloc: Global,
@@ -48,12 +67,16 @@ fn round(
         "fire" => fire(alloc, host, session),
         "cancel" => make(host, &cancel(alloc, session)?),
         "start" => make(host, &start(alloc, next)?),
+        "invoke" => invoke(alloc, host),
         _ => Ok(()),
     }
 }
 
 fn rounds(alloc: Global, kind: &str, sessions: u32, rounds: u32) -> Result<u64, NoMemory> {
     let mut host = filled(alloc, sessions)?;
+    if kind == "invoke" {
+        begin_invoker(alloc, &mut host)?;
+    }
     for number in 0..rounds {
         let session = if sessions == 0 { 0 } else { number % sessions };
         let next = sessions.saturating_add(number);
