@@ -1,7 +1,6 @@
 -- The first entries of a run: how a run goes on to its end, and what is promised of it as far as it came.
-use Rattle.std.proofs.Common.{◌≡◌, ◌≢◌, ℕ, zero, suc, ◌+◌, ◌≤◌, ◌==◌, Bool, true, false, not, ◌&&◌, ◌||◌, cond, Option, None, Some, List, [], ◌∷◌, ◌++◌, length, map, filter, append_assoc, append-nil, refl, sym, ap, subst, ◌∙◌, arith, rules}
-use Rattle.std.specs.Prelude.{IsTrue, count_by}
-use Rattle.std.specs.List.{AllByRecursion, list_all, list_any}
+use Rattle.std.proofs.Common.{◌≡◌, ℕ, zero, suc, ◌+◌, ◌≤◌, Bool, true, false, not, ◌&&◌, ◌||◌, cond, Option, None, Some, List, [], ◌∷◌, ◌++◌, length, map, filter, append-nil, refl, sym, ap, ◌∙◌, arith, rules}
+use Rattle.std.specs.List.{list_all, list_any}
 use Rattle.std.proofs.lemmas.List.Sums.{sum_by-cons}
 use Rattle.sc_types.specs.declared.command.Command.{Command}
 use Rattle.sc_types.specs.declared.command.Command.TheVariants.{Step}
@@ -12,7 +11,7 @@ use Rattle.sc_types.specs.declared.host.HostImage.{HostImage}
 use Rattle.sc_script.specs.declared.script.Script.{Script}
 use Rattle.sc_core.specs.Commands.{answer}
 use Rattle.sc_core.specs.Cues.{ready}
-use Rattle.sc_top.specs.Run.{Continues, Enters, IsFront, IsPrefix, IsRun, Made, Serves, ServesInPart, accepted_steps, commands_of, is_accepted_step, is_of, is_of_later, is_served, is_setup, is_setup_first, list_of, next, of_ready, of_script, over}
+use Rattle.sc_top.specs.Run.{IsFront, IsRun, Made, Serves, ServesInPart, accepted_steps, commands_of, is_accepted_step, is_of, is_of_later, is_served, is_setup, is_setup_first, next, of_ready, of_script}
 use Rattle.sc_top.proofs.RunLemmas.{entry_enters, entry_of, makes_on, steps_on}
 
 -- ---- a run has an end

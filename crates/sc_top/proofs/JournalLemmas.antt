@@ -1,9 +1,9 @@
 -- What a journal holds when it was opened, when a run ended, and when it was made.
-use Rattle.std.proofs.Common.{◌≡◌, ◌≢◌, ◌∙◌, ◌⊎◌, inl, inr, ℕ, ◌+◌, ◌≤◌, Bool, true, false, Option, None, Some, Result, Ok, Err, IfOk, OnErr, List, [], ◌∷◌, ◌++◌, length, append_assoc, append-nil, length-append, refl, sym, ap, subst, arith}
+use Rattle.std.proofs.Common.{◌≡◌, ◌∙◌, ◌⊎◌, inl, inr, ℕ, ◌+◌, ◌≤◌, true, Option, None, Some, Result, Ok, Err, IfOk, OnErr, List, [], ◌∷◌, ◌++◌, length, append-nil, length-append, refl, sym, ap, subst, arith}
 use Rattle.std.specs.Prelude.{is_some}
 use Rattle.std.specs.List.{Contains}
 use Rattle.std.proofs.lemmas.List.Elements.{Contains-push_cases}
-use Rattle.sc_book.specs.Books.{BookOf, HoldsAll, IsBook, IsLastDoubt, first_head, opening}
+use Rattle.sc_book.specs.Books.{BookOf, HoldsAll, IsBook, first_head, opening}
 use Rattle.sc_book.specs.Images.{Spell, StandsFor}
 use Rattle.sc_book.specs.Openings.{IsOpened}
 use Rattle.sc_book.specs.declared.doubt.Doubt.{Doubt}
@@ -11,16 +11,15 @@ use Rattle.sc_book.specs.declared.fault.CallFault.{CallFault}
 use Rattle.sc_book.specs.declared.fault.CallFault.TheVariants as call
 use Rattle.sc_book.proofs.BookLemmas.{all_accepted, from_empty, spell_push, stands}
 use Rattle.sc_codec.specs.Bodies.{Spells, body_of}
-use Rattle.sc_core.specs.Accepted.{AreAccepted, accepted_commands, after, is_accepted}
+use Rattle.sc_core.specs.Accepted.{AreAccepted, accepted_commands, is_accepted}
 use Rattle.sc_core.specs.Commands.{answer}
 use Rattle.sc_core.specs.Cues.{ready}
 use Rattle.sc_core.specs.Histories.{IsLegal, replay}
 use Rattle.sc_core.specs.Hosts.{empty_host}
 use Rattle.sc_core.proofs.AcceptedLemmas.{accepted_more, after_append}
-use Rattle.sc_dev.specs.Causes.{Rose}
 use Rattle.sc_dev.specs.Disks.{DiskOf, Within}
 use Rattle.sc_journal.specs.Journals.{IsFull, StandsAt}
-use Rattle.sc_journal.specs.Texts.{Holds, HoldsWith}
+use Rattle.sc_journal.specs.Texts.{Holds}
 use Rattle.sc_journal.proofs.Gates.{with-either}
 use Rattle.sc_script.specs.declared.script.Script.{Script}
 use Rattle.sc_script.specs.Steps.{HasNoStep}
@@ -31,7 +30,7 @@ use Rattle.sc_top.specs.Journals.{DiskKnown, HasNoRoomFor, IsDoubtful, IsEndOf, 
 use Rattle.sc_top.specs.Journals as journals
 use Rattle.sc_top.specs.Journals.{FailsToOpen}
 use Rattle.sc_top.specs.Promise.{Ends, LeftBy, Runs, Shows, full, failed, left_by, quiet, ran, shown, spent}
-use Rattle.sc_top.specs.Report.{report}
+use Rattle.sc_report.specs.Report.{report}
 use Rattle.sc_top.specs.Sayings.{IsTold, SaysFault, bad, damaged, disk}
 use Rattle.sc_top.specs.declared.status.Status.{Status}
 use Rattle.sc_top.specs.declared.status.Status.TheVariants as done
@@ -39,10 +38,10 @@ use Rattle.sc_book.specs.Openings.{HasFirstBad, IsDamagedAt}
 use Rattle.sc_book.specs.declared.fault.OpenFault.{OpenFault}
 use Rattle.sc_book.specs.declared.fault.OpenFault.TheVariants as unopened
 use Rattle.sc_top.specs.Run.{ComesNext, IsFront, IsHistoryOf, IsRun, IsWholeHistoryOf, in_turn}
-use Rattle.sc_top.specs.Running.{Faces, Goes, GoesOn, HadNoRoom, HasStepped, HowEnded, IsDoubtOf, IsWhy, Reaches, RunOf, Stopped, Stops, no_memory, unanswered}
+use Rattle.sc_top.specs.Running.{Faces, Goes, GoesOn, HadNoRoom, HasStepped, HowEnded, IsDoubtOf, Reaches, RunOf, Stopped, Stops, no_memory, unanswered}
 use Rattle.sc_top.specs.Sayings.{end_by}
-use Rattle.sc_top.specs.declared.end.End.{End}
-use Rattle.sc_top.specs.declared.end.End.TheVariants as end
+use Rattle.sc_report.specs.declared.end.End.{End}
+use Rattle.sc_report.specs.declared.end.End.TheVariants as end
 use Rattle.sc_top.proofs.FrontLemmas.{front_of}
 use Rattle.sc_top.proofs.Promise.{history_of_front, history_of_run}
 

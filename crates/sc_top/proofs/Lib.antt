@@ -2,9 +2,9 @@ pub mod CrossingLemmas
 pub mod FrontLemmas
 pub mod JournalLemmas
 pub mod Promise
-pub mod ReportLemmas
 pub mod RunLemmas
 pub mod RunsLemmas
 pub mod SayingLemmas
+mod StatusLemmas
 pub mod ServedLemmas
 pub mod StateCountLemmas

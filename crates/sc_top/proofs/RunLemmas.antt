@@ -1,5 +1,5 @@
 -- How a run goes on: by nothing, by a step, by a command, and by one part after another; and how it stops.
-use Rattle.std.proofs.Common.{◌≡◌, ◌⊎◌, inl, inr, ℕ, suc, ◌≤◌, Some, List, [], ◌∷◌, ◌++◌, Option, None, Result, Ok, Err, OnOk, IfErr, append_assoc, append-nil, refl, sym, ap, subst, ◌∙◌, arith}
+use Rattle.std.proofs.Common.{◌≡◌, ◌⊎◌, inl, inr, ℕ, suc, ◌≤◌, Some, List, [], ◌∷◌, ◌++◌, Option, Result, Ok, Err, OnOk, IfErr, append_assoc, append-nil, refl, sym, ap, subst, ◌∙◌, arith}
 use Rattle.std.specs.Result.{result_err}
 use Rattle.sc_types.specs.declared.command.Command.{Command}
 use Rattle.sc_types.specs.declared.command.Command.TheVariants.{Step}
@@ -19,7 +19,7 @@ use Rattle.sc_core.proofs.AcceptedLemmas.{replay_append}
 use Rattle.sc_dev.specs.Causes.{Rose}
 use Rattle.sc_dev.specs.Disks.{DiskOf}
 use Rattle.sc_top.specs.Run.{Made, makes, of_ready, next, Enters, Continues, IsRun}
-use Rattle.sc_top.specs.Running.{Faces, Goes, GoesOn, HadNoRoom, HasStepped, HowEnded, IsDoubtOf, IsUnmade, IsWhy, Makes, Reaches, RunOf, Stopped, Stops, no_memory, unanswered}
+use Rattle.sc_top.specs.Running.{Faces, Goes, GoesOn, HasStepped, HowEnded, IsDoubtOf, IsUnmade, IsWhy, Makes, Reaches, RunOf, Stopped, Stops, no_memory, unanswered}
 
 -- what follows from what holds of a result
 

@@ -1,6 +1,5 @@
 -- From what was read, and what a journal came to, to what a status promises of what is said.
-use Rattle.std.proofs.Common.{◌≡◌, ◌∙◌, ℕ, Bool, Option, None, Some, List, Result, Ok, Err, IfOk, OnErr, refl, sym, ap, subst, codes}
-use Rattle.std.specs.Prelude.{is_some}
+use Rattle.std.proofs.Common.{◌≡◌, ℕ, Option, Some, List, Result, Ok, Err, IfOk, OnErr, refl, sym, subst}
 use Rattle.sc_law.specs.LegalCharts.{legal_chart_of}
 use Rattle.sc_types.specs.declared.chart.Chart.{Chart}
 use Rattle.sc_types.specs.declared.chart.ChartFault.{ChartFault}
@@ -14,7 +13,7 @@ use Rattle.sc_top.specs.declared.saying.Saying.{Saying}
 use Rattle.sc_top.specs.declared.status.Status.{Status}
 use Rattle.sc_top.specs.declared.status.Status.TheVariants as done
 use Rattle.sc_top.specs.declared.words.Asked.{Asked}
-use Rattle.sc_top.specs.declared.words.Asked.TheVariants.{Check, Init, Run, Show}
+use Rattle.sc_top.specs.declared.words.Asked.TheVariants.{Check, Run, Show}
 
 -- what is said of a script that was read is what the promise says of a run
 pub run_says : {E : Type 0} (budget : ℕ) (k : Known) (text : List ℕ) (r : Result Saying E)

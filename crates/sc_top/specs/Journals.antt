@@ -1,5 +1,5 @@
 -- What the disk holds before and after a call: a host's journal, or none. This host's own rule.
-use Rattle.std.specs.Prelude.{ℕ, ◌+◌, ◌≡◌, ◌⊎◌, true, false, List, [], ◌∷◌, ◌++◌, length, decimal, codes}
+use Rattle.std.specs.Prelude.{ℕ, ◌+◌, ◌≡◌, ◌⊎◌, true, false, List, ◌++◌, length, decimal, codes}
 use Rattle.sc_book.specs.Books.{first_head, opening}
 use Rattle.sc_book.specs.Images.{Spell, StandsFor}
 use Rattle.sc_book.specs.Openings.{HasFirstBad, IsDamagedAt}
@@ -16,7 +16,7 @@ use Rattle.sc_script.specs.declared.script.Script.{Script}
 use Rattle.sc_types.specs.declared.command.Command.{Command}
 use Rattle.sc_types.specs.declared.history.Entry.{Entry}
 use Rattle.sc_types.specs.declared.host.HostImage.{HostImage}
-use Rattle.sc_top.specs.Lines.{line}
+use Rattle.sc_report.specs.Lines.{line}
 use Rattle.sc_top.specs.Run.{ComesNext}
 use Rattle.sc_top.specs.declared.status.Status.{Status}
 use Rattle.sc_top.specs.declared.status.Status.TheVariants as status

@@ -1,9 +1,8 @@
 pub mod Asked
 pub mod Journals
-pub mod Lines
 pub mod Promise
-pub mod Report
 pub mod Run
 pub mod Running
 pub mod Sayings
+pub mod ScriptFaults
 pub mod Statuses

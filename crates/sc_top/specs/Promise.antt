@@ -13,12 +13,14 @@ use Rattle.sc_book.specs.Books.{opening}
 use Rattle.sc_core.specs.Cues.{ready}
 use Rattle.sc_top.specs.Asked.{most_read}
 use Rattle.sc_top.specs.Journals.{Creates, DiskKnown, FailsToOpen, HasNoRoomFor, IsDoubtful, IsStored, IsUnwritten, Opening, count_after, host_after}
-use Rattle.sc_top.specs.Lines.{line}
-use Rattle.sc_top.specs.Report.{fault_text, report, script_fault_text}
+use Rattle.sc_report.specs.Lines.{line}
+use Rattle.sc_report.specs.Entries.{fault_text}
+use Rattle.sc_report.specs.Report.{report}
+use Rattle.sc_top.specs.ScriptFaults.{script_fault_text}
 use Rattle.sc_top.specs.Run.{ComesNext, IsHistoryOf, IsWholeHistoryOf}
 use Rattle.sc_top.specs.Statuses.{end_status}
-use Rattle.sc_top.specs.declared.end.End.{End}
-use Rattle.sc_top.specs.declared.end.End.TheVariants as end
+use Rattle.sc_report.specs.declared.end.End.{End}
+use Rattle.sc_report.specs.declared.end.End.TheVariants as end
 use Rattle.sc_top.specs.declared.status.Status.{Status}
 use Rattle.sc_top.specs.declared.status.Status.TheVariants as status
 use Rattle.sc_top.specs.declared.words.Asked.{Asked}

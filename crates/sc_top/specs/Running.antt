@@ -1,10 +1,9 @@
 -- A run under way: the book, and the steps that are left. Only private clauses cite these definitions.
-use Rattle.std.specs.Prelude.{ℕ, ◌≡◌, ◌≤◌, ◌⊎◌, true, Option, None, Some, List, [], ◌∷◌, ◌++◌, length}
+use Rattle.std.specs.Prelude.{ℕ, ◌≡◌, ◌≤◌, ◌⊎◌, true, Option, None, Some, List, [], ◌∷◌, ◌++◌}
 use Rattle.sc_types.specs.declared.command.Command.{Command}
 use Rattle.sc_types.specs.declared.history.Entry.{Entry}
 use Rattle.sc_types.specs.declared.history.Who.{Who}
 use Rattle.sc_types.specs.declared.host.HostImage.{HostImage}
-use Rattle.sc_script.specs.declared.script.Script.{Script}
 use Rattle.sc_dev.specs.Causes.{Rose}
 use Rattle.sc_dev.specs.Disks.{DiskOf}
 use Rattle.sc_book.specs.Books.{BookOf, IsBook}
@@ -15,7 +14,7 @@ use Rattle.sc_book.specs.declared.fault.CallFault.TheVariants.{Disk, Full, NoMem
 use Rattle.sc_core.specs.Accepted.{is_accepted}
 use Rattle.sc_core.specs.Commands.{answer}
 use Rattle.sc_core.specs.Histories.{replay}
-use Rattle.sc_top.specs.Run.{Made, of_script, in_turn, next, Enters, IsRun}
+use Rattle.sc_top.specs.Run.{Made, of_script, next, Enters, IsRun}
 
 pub record RunOf (D : Type 0) : Type 0 where
   pub book : BookOf D

@@ -10,11 +10,12 @@ use Rattle.sc_book.specs.declared.fault.CallFault.TheVariants as call
 use Rattle.sc_book.specs.declared.fault.OpenFault.{OpenFault}
 use Rattle.sc_book.specs.declared.fault.OpenFault.TheVariants as unopened
 use Rattle.sc_core.specs.Cues.{ready}
-use Rattle.sc_top.specs.Lines.{line}
-use Rattle.sc_top.specs.Report.{fault_text, report}
+use Rattle.sc_report.specs.Lines.{line}
+use Rattle.sc_report.specs.Entries.{fault_text}
+use Rattle.sc_report.specs.Report.{report}
 use Rattle.sc_top.specs.Statuses.{end_status}
-use Rattle.sc_top.specs.declared.end.End.{End}
-use Rattle.sc_top.specs.declared.end.End.TheVariants as end
+use Rattle.sc_report.specs.declared.end.End.{End}
+use Rattle.sc_report.specs.declared.end.End.TheVariants as end
 use Rattle.sc_top.specs.declared.saying.Saying.{Saying}
 use Rattle.sc_top.specs.declared.saying.Saying.TheVariants as saying
 use Rattle.sc_top.specs.declared.status.Status.{Status}
@@ -30,8 +31,8 @@ status_of saying.Exists = status.Exists
 status_of (saying.BadScript text) = status.BadScript
 status_of (saying.BadJournal text) = status.BadJournal
 status_of (saying.Legal text) = status.Done
-status_of (saying.Faulty text) = status.Faulty
-status_of (saying.Report end text) = end_status end
+status_of (saying.Faulty fault) = status.Faulty
+status_of (saying.Report end closed) = end_status end
 
 -- the bytes that go with a saying
 abbrev pub text_of : Saying → List ℕ
@@ -43,8 +44,8 @@ text_of saying.Exists = codes "exists\n"
 text_of (saying.BadScript text) = text
 text_of (saying.BadJournal text) = text
 text_of (saying.Legal text) = text
-text_of (saying.Faulty text) = text
-text_of (saying.Report end text) = text
+text_of (saying.Faulty fault) = line (codes "chart " ++ fault_text fault)
+text_of (saying.Report end closed) = report closed.opened closed.host.image closed.history.entries end
 
 -- of a text that should spell a chart
 

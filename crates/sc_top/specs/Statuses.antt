@@ -1,7 +1,7 @@
--- The numbers that the program ends with, and how reports end. This host's own rule.
-use Rattle.std.specs.Prelude.{ℕ, List, codes}
-use Rattle.sc_top.specs.declared.end.End.{End}
-use Rattle.sc_top.specs.declared.end.End.TheVariants as end
+-- The numbers that the program ends with. This host's own rule.
+use Rattle.std.specs.Prelude.{ℕ}
+use Rattle.sc_report.specs.declared.end.End.{End}
+use Rattle.sc_report.specs.declared.end.End.TheVariants as end
 use Rattle.sc_top.specs.declared.status.Status.{Status}
 use Rattle.sc_top.specs.declared.status.Status.TheVariants.{Done, OtherWords, BadScript, Faulty, ReadFault, WriteFault, DiskFault, OutOfMemory, Budget, BadJournal, Full, Exists}
 
@@ -26,11 +26,3 @@ end_status end.Budget = Budget
 end_status end.Disk = DiskFault
 end_status end.Full = Full
 end_status end.Shown = Done
-
--- the word of its last line
-abbrev pub end_word : End → List ℕ
-end_word end.Quiet = codes "quiet"
-end_word end.Budget = codes "budget"
-end_word end.Disk = codes "disk"
-end_word end.Full = codes "full"
-end_word end.Shown = codes "shown"

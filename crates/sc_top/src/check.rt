@@ -1,18 +1,15 @@
 ghost use Rattle.std.specs.Prelude.{◌≡◌, ◌+◌, ◌^◌, ◌++◌, nat_lt, Some, None, Ok, Err, IfOk, OnOk, if◌then◌else◌, decimal, codes};
-ghost use Rattle.sc_types.specs.declared.chart.ChartFault.{ChartFault};
 ghost use Rattle.sc_types.specs.ChartTexts.{states_in, count_states};
 ghost use Rattle.sc_types.specs.Elements.{is_numbered};
 ghost use Rattle.sc_law.specs.LegalCharts.{legal_chart_of};
-ghost use Rattle.sc_top.specs.Lines.{line};
-ghost use Rattle.sc_top.specs.Report.{fault_text};
+ghost use Rattle.sc_report.specs.Lines.{line};
 ghost use Rattle.sc_top.specs.Sayings.{status_of, text_of, check_status, check_text};
 
-use crate::report::lines::put_counted;
-use crate::report::replies::put_fault;
+use crate::lines::counted_line;
 use crate::saying::Saying;
-use sc_base::{Bytes, NoMemory, TextWriter};
+use sc_base::{Bytes, NoMemory};
 use sc_core::read_legal_chart;
-use sc_types::{Chart, ChartFault, ChartRefusal, Node, Tag};
+use sc_types::{Chart, ChartRefusal, Node, Tag};
 use std::alloc::Global;
 
 /// What is said of a text that should spell a chart: how many states it has, or its first fault.
@@ -22,7 +19,7 @@ pub(crate) fn check_text(alloc: Global, text: &[u8]) -> Result<Saying, NoMemory>
 {
     match read_legal_chart(alloc, text) {
         Ok(chart) => Ok(Saying::Legal(chart_line(alloc, chart.chart())?)),
-        Err(ChartRefusal::Fault(fault)) => Ok(Saying::Faulty(fault_line(alloc, &fault)?)),
+        Err(ChartRefusal::Fault(fault)) => Ok(Saying::Faulty(fault)),
         Err(ChartRefusal::NoMemory) => Err(NoMemory),
     }
 }
@@ -30,20 +27,7 @@ pub(crate) fn check_text(alloc: Global, text: &[u8]) -> Result<Saying, NoMemory>
 fn chart_line(alloc: Global, chart: &Chart) -> Result<Bytes, NoMemory>
     ensures { IfOk result (λ text. text ≡ line (codes "ok " ++ decimal (count_states chart.now))) }
 {
-    let mut out = TextWriter::new(alloc);
-    let count = states_in(&chart.root)?;
-    put_counted(&mut out, b"ok ", u128::from(count))?;
-    Ok(out.into_bytes())
-}
-
-fn fault_line(alloc: Global, fault: &ChartFault) -> Result<Bytes, NoMemory>
-    ensures { IfOk result (λ text. text ≡ line (codes "chart " ++ fault_text fault.now)) }
-{
-    let mut out = TextWriter::new(alloc);
-    out.text("chart ")?;
-    put_fault(&mut out, fault)?;
-    out.end_line()?;
-    Ok(out.into_bytes())
+    counted_line(alloc, b"ok ", states_in(&chart.root)?)
 }
 
 /// How many states an element and those below it are, with parallels, finals and histories. A chart with 2^64

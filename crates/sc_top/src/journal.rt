@@ -1,27 +1,24 @@
-ghost use Rattle.std.specs.Prelude.{◌≡◌, ◌++◌, IfOk, OnErr, decimal};
+ghost use Rattle.std.specs.Prelude.{◌≡◌, IfOk, OnErr};
 ghost use Rattle.std.specs.Result.{result_ok};
 ghost use Rattle.sc_script.specs.Steps.{HasNoStep};
 ghost use Rattle.sc_top.specs.Journals.{Creates, IsUnwritten, disk_known};
-ghost use Rattle.sc_top.specs.Lines.{line};
 ghost use Rattle.sc_top.specs.Promise.{LeftBy, Runs, Shows};
-ghost use Rattle.sc_top.specs.Report.{report};
 ghost use Rattle.sc_top.specs.Sayings.{IsTold, SaysFault, end_by, status_of, text_of};
-ghost use Rattle.sc_top.specs.Statuses.{end_status};
 
-use crate::end::End;
-use crate::report::lines::put_counted;
-use crate::report::report_of;
+use crate::lines::counted_line;
 use crate::run::{Ended, run_script};
 use crate::saying::Saying;
-use sc_base::{Bytes, NoMemory, TextWriter};
+use sc_base::NoMemory;
 use sc_book::{Book, CallFault, OpenFault};
-use sc_core::Closed;
+use sc_core::{Closed, History, HostState};
 use sc_dev::Disk;
 use sc_journal::{CreateFault, create};
 use sc_law::Engine;
+use sc_report::End;
 use sc_script::Script;
 use sc_turn::Compiled;
 use std::alloc::Global;
+use std::mem;
 
 /// Makes a journal.
 pub(crate) fn init<D: Disk>(disk: &mut D) -> Saying
@@ -43,10 +40,10 @@ pub(crate) fn show<D: Disk>(alloc: Global, disk: &mut D) -> Result<Saying, NoMem
 {
     match Book::open(alloc, &Compiled, disk) {
         Ok(book) => {
-            let closed = book.finish();
-            let said = report(alloc, &closed, End::Shown);
+            let mut closed = book.finish();
+            let left = left_by(alloc, &mut closed);
             into_disk(closed);
-            said
+            Ok(Saying::Report(End::Shown, left))
         }
         Err(failed) => {
             let fault = failed.fault;
@@ -70,8 +67,8 @@ pub(crate) fn run<D: Disk>(
 {
     match Book::open(alloc, &Compiled, disk) {
         Ok(book) => {
-            let ended = run_script(alloc, book, script, budget);
-            let said = tell(alloc, &ended);
+            let mut ended = run_script(alloc, book, script, budget);
+            let said = tell(alloc, &mut ended);
             into_disk(ended.closed);
             said
         }
@@ -90,30 +87,30 @@ fn into_disk<E: Engine, D: Disk>(closed: Closed<E, D>) -> D
     closed.disk
 }
 
-/// What there is to say of a run that has ended.
-fn tell<D: Disk>(alloc: Global, ended: &Ended<Compiled, D>) -> Result<Saying, NoMemory>
-    ensures { IfOk result (λ s. IsTold ended.now.fault ended.now.closed.opened ended.now.closed.host.image
-        ended.now.closed.history.entries (status_of s) (text_of s)) }
+/// What a run or an opening left, without the disk. Nothing else is left of it.
+fn left_by<E: Engine, D>(alloc: Global, closed: &mut Closed<E, D>) -> Closed<E, ()>
+    ensures opened { result.opened ≡ closed.old.opened }
+    ensures host { result.host.image ≡ closed.old.host.image }
+    ensures history { result.history.entries ≡ closed.old.history.entries }
+    ensures disk { closed.new.disk ≡ closed.old.disk }
 {
-    let is_ready = ended.closed.host.ready_session().is_some();
-    report(alloc, &ended.closed, end_of(ended.fault, is_ready)?)
+    Closed {
+        host: mem::replace(&mut closed.host, HostState::new(alloc)),
+        opened: closed.opened,
+        history: mem::replace(&mut closed.history, History::new(alloc)),
+        disk: (),
+    }
 }
 
-/// A report of what a run or an opening left.
-fn report<D: Disk>(
-    alloc: Global,
-    closed: &Closed<Compiled, D>,
-    end: End,
-) -> Result<Saying, NoMemory>
-    ensures status { IfOk result (λ s. status_of s ≡ end_status end) }
-    ensures text { IfOk result (λ s. text_of s
-        ≡ report closed.now.opened closed.now.host.image closed.now.history.entries end) }
+/// What there is to say of a run that has ended. Of what it left only the disk is still there then.
+fn tell<D: Disk>(alloc: Global, ended: &mut Ended<Compiled, D>) -> Result<Saying, NoMemory>
+    ensures told { IfOk result (λ s. IsTold ended.old.fault ended.old.closed.opened ended.old.closed.host.image
+        ended.old.closed.history.entries (status_of s) (text_of s)) }
+    ensures disk { ended.new.closed.disk ≡ ended.old.closed.disk }
 {
-    let history = closed.history.slice();
-    Ok(Saying::Report(
-        end,
-        report_of(alloc, &closed.host, history, closed.opened, end)?,
-    ))
+    let is_ready = ended.closed.host.ready_session().is_some();
+    let end = end_of(ended.fault, is_ready)?;
+    Ok(Saying::Report(end, left_by(alloc, &mut ended.closed)))
 }
 
 /// How a run ended.
@@ -145,12 +142,4 @@ fn not_opened(alloc: Global, fault: OpenFault) -> Result<Saying, NoMemory>
         )?)),
         OpenFault::NoMemory => Err(NoMemory),
     }
-}
-
-fn counted_line(alloc: Global, word: &[u8], number: u64) -> Result<Bytes, NoMemory>
-    ensures { IfOk result (λ text. text ≡ line (word.now ++ decimal number)) }
-{
-    let mut out = TextWriter::new(alloc);
-    put_counted(&mut out, word, u128::from(number))?;
-    Ok(out.into_bytes())
 }

@@ -3,10 +3,9 @@
 #![tactic(auto)]
 
 mod check;
-mod end;
 mod journal;
+mod lines;
 mod program;
-mod report;
 mod run;
 mod saying;
 mod status;

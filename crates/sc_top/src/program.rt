@@ -11,12 +11,12 @@ ghost use Rattle.sc_top.specs.Statuses.{code};
 
 use crate::check::check_text;
 use crate::journal;
-use crate::report::script_fault_line;
+use crate::lines::script_fault_line;
 use crate::saying::Saying;
 use crate::status::Status;
 use crate::words::{Asked, read_words};
 use sc_base::{Failure, NoMemory};
-use sc_dev::{Disk, Sink, Source, read_up_to, write_all};
+use sc_dev::{Disk, Sink, Source, read_up_to};
 use sc_script::read_script;
 use sc_types::{CHART_TEXT_LIMIT, SCRIPT_TEXT_LIMIT};
 use std::alloc::Global;
@@ -150,7 +150,7 @@ fn say<K: Sink>(sink: &mut K, saying: &Saying) -> u8
         → AppendsPart (K.taken sink.old) (K.taken sink.new) (text_of saying.now) }
     ensures fault { result ≡ code Status.WriteFault → Rose (K.faults sink.old) (K.faults sink.new) }
 {
-    match write_all(sink, saying.text()) {
+    match saying.write(sink) {
         Ok(()) => saying.status().code(),
         Err(_) => Status::WriteFault.code(),
     }

@@ -1,13 +1,20 @@
-ghost use Rattle.std.specs.Prelude.{◌≡◌, ◌≢◌};
+ghost use Rattle.std.specs.Prelude.{◌≡◌, ◌≢◌, OnErr, OnOk};
+ghost use Rattle.std.specs.Io.KnownBytes.{Appends};
+ghost use Rattle.sc_dev.specs.Causes.{HasCause};
+ghost use Rattle.sc_dev.specs.Transfer.{AppendsPart};
 ghost use Rattle.sc_top.specs.Sayings.{status_of, text_of};
 ghost use Rattle.sc_top.specs.Statuses.{code};
 
-use crate::end::End;
 use crate::status::Status;
 use sc_base::Bytes;
+use sc_core::Closed;
+use sc_dev::{Failed, Sink, write_all};
+use sc_report::{End, write_fault, write_report};
+use sc_turn::Compiled;
+use sc_types::ChartFault;
 
 /// What the program has to say.
-#[derive(Debug, Drop)]
+#[derive(Drop)]
 pub(crate) enum Saying {
     OtherWords,
     /// The source failed.
@@ -25,9 +32,9 @@ pub(crate) enum Saying {
     /// That a text is a chart.
     Legal(Bytes),
     /// The first fault of a chart's text.
-    Faulty(Bytes),
-    /// A report.
-    Report(End, Bytes),
+    Faulty(ChartFault),
+    /// A report of what a run or an opening left.
+    Report(End, Closed<Compiled, ()>),
 }
 
 impl Saying {
@@ -45,24 +52,27 @@ impl Saying {
             Saying::BadJournal(_) => Status::BadJournal,
             Saying::Legal(_) => Status::Done,
             Saying::Faulty(_) => Status::Faulty,
-            Saying::Report(end, _) => end.status(),
+            Saying::Report(end, _) => Status::of_end(*end),
         }
     }
 
-    pub(crate) fn text(&self) -> &[u8]
-        ensures { result.now ≡ text_of self.now }
+    /// Writes it.
+    pub(crate) fn write<K: Sink>(&self, sink: &mut K) -> Result<(), Failed>
+        ensures ok { OnOk result (Appends (K.taken sink.old) (K.taken sink.new) (text_of self.now)) }
+        ensures err { OnErr result (AppendsPart (K.taken sink.old) (K.taken sink.new) (text_of self.now)) }
+        ensures cause { HasCause (K.faults sink.old) (K.faults sink.new) result }
     {
         match self {
-            Saying::OtherWords => b"words\n",
-            Saying::ReadFault => b"read\n",
-            Saying::DiskFault => b"disk\n",
-            Saying::Created => b"created\n",
-            Saying::Exists => b"exists\n",
-            Saying::BadScript(text) => text.slice(),
-            Saying::BadJournal(text) => text.slice(),
-            Saying::Legal(text) => text.slice(),
-            Saying::Faulty(text) => text.slice(),
-            Saying::Report(_, text) => text.slice(),
+            Saying::OtherWords => write_all(sink, b"words\n"),
+            Saying::ReadFault => write_all(sink, b"read\n"),
+            Saying::DiskFault => write_all(sink, b"disk\n"),
+            Saying::Created => write_all(sink, b"created\n"),
+            Saying::Exists => write_all(sink, b"exists\n"),
+            Saying::BadScript(text) => write_all(sink, text.slice()),
+            Saying::BadJournal(text) => write_all(sink, text.slice()),
+            Saying::Legal(text) => write_all(sink, text.slice()),
+            Saying::Faulty(fault) => write_fault(fault, sink),
+            Saying::Report(end, closed) => write_report(closed, *end, sink),
         }
     }
 }

@@ -1,5 +1,7 @@
 ghost use Rattle.std.specs.Prelude.{◌≡◌};
-ghost use Rattle.sc_top.specs.Statuses.{code};
+ghost use Rattle.sc_top.specs.Statuses.{code, end_status};
+
+use sc_report::End;
 
 /// How the program ends.
 #[derive(Clone, Copy, Debug, PartialEq, Eq)]
@@ -30,6 +32,18 @@ pub enum Status {
 }
 
 impl Status {
+    /// The status of a report that ends so.
+    pub(crate) fn of_end(end: End) -> Status
+        ensures { result ≡ end_status end }
+    {
+        match end {
+            End::Quiet | End::Shown => Status::Done,
+            End::Budget => Status::Budget,
+            End::Disk => Status::DiskFault,
+            End::Full => Status::Full,
+        }
+    }
+
     /// The number that the process ends with.
     pub fn code(self) -> u8
         ensures { result ≡ code self }

@@ -1,10 +1,9 @@
 use Rattle.sc_top.proofs.CrossingLemmas.{second_send, second_sync}
-use Rattle.std.proofs.Common.{◌≡◌, ◌∙◌, ℕ, IfOk, OnErr, refl, sym, ap, subst, rules, MutBor}
+use Rattle.std.proofs.Common.{◌∙◌, ℕ, IfOk, sym, ap, subst, rules, MutBor}
 use Rattle.sc_dev.specs.Disks.{DiskOf}
 use Rattle.sc_top.specs.Journals.{disk_known}
 use Rattle.sc_top.specs.Promise.{LeftBy, Runs, not_run}
 use Rattle.sc_top.specs.Sayings.{status_of, text_of}
-use Rattle.sc_top.specs.Running.{run_of}
 use Rattle.sc_top.proofs.JournalLemmas.{fails_of, if_ok_map, left_of, on_err, runs_of}
 use Rattle.sc_top.proofs.journal.run.Goals as goal
 
@@ -23,16 +22,16 @@ returns-in-Ok-clause-ok g c =
     let e = c.run_script-ended.ensures in
     let b = c.in-Ok.book in
     let done = c.run_script-ended.result in
-    let named = ap I (c.into_disk.ensures ∙ sym e.disk) ∙ e.goes_on.same ∙ c.in-Ok.ensures.same in
+    let named = ap I (c.into_disk.ensures ∙ c.tell-said.ensures.disk ∙ sym e.disk) ∙ e.goes_on.same ∙ c.in-Ok.ensures.same in
     let told = if_ok_map c.tell-said.result _ (λ s. Runs (disk_known T R L F c.args.disk e.run.book.journal.disk) c.args.script
     c.args.budget (status_of s) (text_of s)) (λ s is. runs_of T R L S M F I standing c.args.disk b c.in-Ok.ensures.opened
     c.args.script c.args.budget c.requires.steps e.run e.goes_on c.in-Ok.ensures.later c.in-Ok.ensures.stands done.fault e.how
     done.closed.opened done.closed.host.image done.closed.history.entries e.opened e.host e.history (status_of s) (text_of s) is)
-    c.tell-said.ensures in
+    c.tell-said.ensures.told in
     let P : g.row.D.Denot → Type 0 = λ x. IfOk c.tell-said.result (λ s. Runs (disk_known T g.D.Disk.reads g.D.Disk.may_leave
     g.D.Disk.faults c.args.disk.now x) c.args.script c.args.budget (status_of s) (text_of s)) in
     let moved : P c.into_disk.result.now =
-    subst (λ (x : Lent). P x.now) (e.disk ∙ sym c.into_disk.ensures) told in
+    subst (λ (x : Lent). P x.now) (e.disk ∙ sym (c.into_disk.ensures ∙ c.tell-said.ensures.disk)) told in
     subst P (search (rules, named)) moved
 
 pub returns-in-Ok-clause-err : goal.returns-in-Ok-clause-err
@@ -50,12 +49,12 @@ returns-in-Ok-clause-err g c =
     let e = c.run_script-ended.ensures in
     let b = c.in-Ok.book in
     let done = c.run_script-ended.result in
-    let named = ap I (c.into_disk.ensures ∙ sym e.disk) ∙ e.goes_on.same ∙ c.in-Ok.ensures.same in
+    let named = ap I (c.into_disk.ensures ∙ c.tell-said.ensures.disk ∙ sym e.disk) ∙ e.goes_on.same ∙ c.in-Ok.ensures.same in
     let left = left_of T R L S M F I standing c.args.disk b c.in-Ok.ensures.opened c.args.script c.args.budget c.requires.steps
     e.run e.goes_on c.in-Ok.ensures.later c.in-Ok.ensures.stands done.fault e.how in
     let P : g.row.D.Denot → Type 0 = λ x. LeftBy (disk_known T g.D.Disk.reads g.D.Disk.may_leave g.D.Disk.faults
     c.args.disk.now x) c.args.script c.args.budget in
-    let moved : P c.into_disk.result.now = subst (λ (x : Lent). P x.now) (e.disk ∙ sym c.into_disk.ensures) left in
+    let moved : P c.into_disk.result.now = subst (λ (x : Lent). P x.now) (e.disk ∙ sym (c.into_disk.ensures ∙ c.tell-said.ensures.disk)) left in
     on_err c.tell-said.result _ (subst P (search (rules, named)) moved)
 
 pub returns-in-Err-clause-ok : goal.returns-in-Err-clause-ok

@@ -1,10 +1,13 @@
 use Rattle.sc_top.proofs.CrossingLemmas.{second_send, second_sync}
-use Rattle.std.proofs.Common.{◌≡◌, ◌∙◌, ℕ, IfOk, OnErr, refl, sym, ap, subst, rules, MutBor}
+use Rattle.std.proofs.Common.{◌∙◌, ℕ, IfOk, refl, sym, ap, subst, rules, MutBor}
 use Rattle.sc_dev.specs.Disks.{DiskOf}
+use Rattle.sc_report.specs.Report.{report}
+use Rattle.sc_report.specs.declared.end.End.TheVariants as end
 use Rattle.sc_top.specs.Journals.{disk_known}
 use Rattle.sc_top.specs.Promise.{Shows, not_shown}
 use Rattle.sc_top.specs.Sayings.{status_of, text_of}
-use Rattle.sc_top.proofs.JournalLemmas.{fails_of, if_ok_map, shows_of, told_both}
+use Rattle.sc_top.specs.declared.status.Status.TheVariants.{Done}
+use Rattle.sc_top.proofs.JournalLemmas.{fails_of, if_ok_map, shows_of}
 use Rattle.sc_top.proofs.journal.show.Goals as goal
 
 pub returns-in-Ok-clause-ok : goal.returns-in-Ok-clause-ok
@@ -21,16 +24,16 @@ returns-in-Ok-clause-ok g c =
     let standing : (d : Lent) → L d (R d) = λ d. laws.stands d.now in
     let b = c.in-Ok.book in
     let done = c.finish-closed in
-    let named = ap I (c.into_disk.ensures ∙ done.ensures.disk) ∙ c.in-Ok.ensures.same in
-    let told = if_ok_map c.report-said.result _ (λ s. Shows (disk_known T R L F c.args.disk b.journal.disk) (status_of s)
-    (text_of s)) (λ s is. shows_of T R L S M F I standing c.args.disk b c.in-Ok.ensures.opened c.in-Ok.ensures.images c.in-Ok.ensures.stands
-    done.result.opened done.result.host.image done.result.history.entries (sym done.ensures.opened) (sym done.ensures.host)
-    (sym done.ensures.history) (status_of s) (text_of s) is.0 is.1)
-    (told_both c.report-said.result _ _ c.report-said.ensures.status c.report-said.ensures.text) in
-    let P : g.row.D.Denot → Type 0 = λ x. IfOk c.report-said.result (λ s. Shows (disk_known T g.D.Disk.reads
-    g.D.Disk.may_leave g.D.Disk.faults c.args.disk.now x) (status_of s) (text_of s)) in
+    let named = ap I (c.into_disk.ensures ∙ c.left_by-left.ensures.disk ∙ done.ensures.disk) ∙ c.in-Ok.ensures.same in
+    let t = c.left_by-left in
+    let shown = shows_of T R L S M F I standing c.args.disk b c.in-Ok.ensures.opened c.in-Ok.ensures.images
+    c.in-Ok.ensures.stands t.result.opened t.result.host.image t.result.history.entries (sym (t.ensures.opened ∙ done.ensures.opened))
+    (sym (t.ensures.host ∙ done.ensures.host)) (sym (t.ensures.history ∙ done.ensures.history)) Done
+    (report t.result.opened t.result.host.image t.result.history.entries end.Shown) refl refl in
+    let P : g.row.D.Denot → Type 0 = λ x. Shows (disk_known T g.D.Disk.reads g.D.Disk.may_leave g.D.Disk.faults
+    c.args.disk.now x) Done (report t.result.opened t.result.host.image t.result.history.entries end.Shown) in
     let moved : P c.into_disk.result.now =
-    subst (λ (x : Lent). P x.now) (sym (c.into_disk.ensures ∙ done.ensures.disk)) told in
+    subst (λ (x : Lent). P x.now) (sym (c.into_disk.ensures ∙ t.ensures.disk ∙ done.ensures.disk)) shown in
     subst P (search (rules, named)) moved
 
 pub returns-in-Err-clause-ok : goal.returns-in-Err-clause-ok
@@ -73,3 +76,9 @@ into_disk-requires-send-E-Plan g c κs = λ lives. second_send _
 
 pub into_disk-requires-sync-E-Plan : goal.into_disk-requires-sync-E-Plan
 into_disk-requires-sync-E-Plan g c κs = λ lives. second_sync _
+
+pub left_by-left-requires-send-E-Plan : goal.left_by-left-requires-send-E-Plan
+left_by-left-requires-send-E-Plan g c κs = λ lives. second_send _
+
+pub left_by-left-requires-sync-E-Plan : goal.left_by-left-requires-sync-E-Plan
+left_by-left-requires-sync-E-Plan g c κs = λ lives. second_sync _

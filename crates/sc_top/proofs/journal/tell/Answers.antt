@@ -1,3 +1,4 @@
+use Rattle.sc_top.proofs.CrossingLemmas.{second_send, second_sync}
 use Rattle.sc_turn.proofs.Crossing.{plan_given_send, plan_given_sync}
 use Rattle.sc_top.proofs.journal.tell.Goals as goal
 
@@ -6,3 +7,9 @@ ready_session-requires-send-E-Plan g c κs = plan_given_send _
 
 pub ready_session-requires-sync-E-Plan : goal.ready_session-requires-sync-E-Plan
 ready_session-requires-sync-E-Plan g c κs = plan_given_sync _
+
+pub left_by-requires-send-E-Plan : goal.left_by-requires-send-E-Plan
+left_by-requires-send-E-Plan g c κs = λ lives. second_send _
+
+pub left_by-requires-sync-E-Plan : goal.left_by-requires-sync-E-Plan
+left_by-requires-sync-E-Plan g c κs = λ lives. second_sync _

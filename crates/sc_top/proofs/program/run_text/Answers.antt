@@ -2,9 +2,9 @@ use Rattle.std.proofs.Common.{◌≡◌, ◌++◌, Err, codes, sym, subst}
 use Rattle.sc_script.specs.Scripts.{script_of}
 use Rattle.sc_script.proofs.StepLemmas.{no_step_in}
 use Rattle.sc_top.specs.Journals.{disk_known}
-use Rattle.sc_top.specs.Lines.{line}
+use Rattle.sc_report.specs.Lines.{line}
 use Rattle.sc_top.specs.Promise.{SaysOfScript, no_script, unread}
-use Rattle.sc_top.specs.Report.{script_fault_text}
+use Rattle.sc_top.specs.ScriptFaults.{script_fault_text}
 use Rattle.sc_top.specs.declared.status.Status.TheVariants.{BadScript}
 use Rattle.sc_top.proofs.JournalLemmas.{on_err}
 use Rattle.sc_top.proofs.SayingLemmas.{script_leaves, script_says}

@@ -1,4 +1,4 @@
-use Rattle.std.proofs.Common.{[], ◌++◌, append-nil, subst}
+use Rattle.std.proofs.Common.{[], append-nil, subst}
 use Rattle.std.proofs.lemmas.Result.{err_from_is_err_and}
 use Rattle.sc_top.specs.Run.{in_turn, of_clients}
 use Rattle.sc_top.specs.Running.{Goes, Stops, run_of}

@@ -4,8 +4,6 @@ use Rattle.sc_book.specs.declared.fault.CallFault.TheVariants.{NoMemory}
 use Rattle.sc_core.specs.Cues.{ready}
 use Rattle.sc_top.specs.Running.{run_of}
 use Rattle.sc_top.proofs.RunLemmas.{goes_by_step, goes_further, goes_nowhere, goes_on_further, goes_on_still, stops_at_once, stops_by_step, stops_further}
-use Rattle.sc_top.proofs.FrontLemmas.{front_of}
-use Rattle.sc_top.proofs.JournalLemmas.{ends_of}
 use Rattle.sc_top.proofs.run.Run.step_all.Goals as goal
 
 pub loop-self-init : goal.loop-self-init
