@@ -7,6 +7,7 @@
 mod calls;
 mod disk;
 mod failed;
+mod gate;
 mod mem_disk;
 mod mem_part;
 mod mem_parts;
@@ -20,6 +21,7 @@ mod unread;
 
 pub use disk::{Disk, Part};
 pub use failed::Failed;
+pub use gate::{Gate, HoldGate, OpenGate};
 pub use mem_disk::MemDisk;
 pub use mem_sink::MemSink;
 pub use mem_source::MemSource;
