@@ -12,6 +12,7 @@ pub mod FamilyLemmas
 pub mod FitLemmas
 pub mod FoundLemmas
 pub mod GivenLemmas
+pub mod HandedLemmas
 pub mod HeldLemmas
 pub mod InstallLemmas
 pub mod InvokeLemmas
@@ -27,9 +28,12 @@ pub mod PlanLemmas
 pub mod PrepareLemmas
 pub mod ReadyLemmas
 pub mod RoomLemmas
+pub mod SamenessLemmas
 pub mod SetLemmas
 pub mod SoundLemmas
+pub mod StaysLemmas
 pub mod TickLemmas
 pub mod TurnLemmas
 pub mod TurnedLemmas
+pub mod WaitLemmas
 pub mod WeightLemmas

@@ -13,11 +13,13 @@ pub mod Endings
 pub mod FittingHosts
 pub mod Histories
 pub mod Hosts
+pub mod Inputs
 pub mod Installing
 pub mod Newborns
 pub mod Parting
 pub mod Preparing
 pub mod Stepping
 pub mod Ticking
+pub mod Waiting
 pub mod Holding
 pub mod HostStates

@@ -1,8 +1,9 @@
 ghost use Rattle.std.specs.Prelude.{◌≡◌, ◌+◌, ◌<◌, ◌≤◌, ◌↔◌, [], ◌∷◌, ◌++◌, slice_get, length, IsTrue, OnOk};
 ghost use Rattle.std.specs.Option.{option_copied};
+ghost use Rattle.sc_core.specs.Accepted.{accepted_steps, is_accepted_step};
 
 use sc_base::NoMemory;
-use sc_types::Entry;
+use sc_types::{Command, Entry, Reply};
 use std::alloc::Global;
 use std::marker::Model;
 
@@ -11,10 +12,12 @@ use std::marker::Model;
 #[derive(Debug, Drop)]
 pub struct History {
     entries: Vec<Entry>,
+    /// How many of them are accepted steps.
+    steps: u64,
 }
 
 impl Model for History {
-    ghost use Rattle.std.specs.Prelude.{◌-◌, length, vec_capacity};
+    ghost use Rattle.std.specs.Prelude.{◌≡◌, ◌-◌, length, vec_capacity};
     ghost use Rattle.sc_core.specs.Closing.{HistoryOf};
     ghost use Rattle.sc_types.specs.contracts.history.Entry as entry_type;
     ghost use Rattle.std.specs.Coded.{codes};
@@ -23,7 +26,21 @@ impl Model for History {
 
     ghost coded = { Prim.hlevel (codes, entry_type.the_row.coded) };
 
+    ghost use Rattle.sc_core.specs.Accepted.{accepted_steps};
+
     ghost view = { λ h. record { entries = h.entries.items; spare = vec_capacity h.entries - length h.entries.items } };
+
+    ghost invariant = { λ h. h.steps ≡ accepted_steps h.entries.items };
+}
+
+/// Whether an entry is a step that was accepted.
+fn is_accepted_step(entry: &Entry) -> bool
+    ensures { result ≡ is_accepted_step entry.now.command entry.now.reply }
+{
+    match &entry.command {
+        Command::Step { .. } => matches!(&entry.reply, Reply::Stepped(_)),
+        _ => false,
+    }
 }
 
 impl History {
@@ -33,6 +50,7 @@ impl History {
     {
         History {
             entries: Vec::new(alloc),
+            steps: 0,
         }
     }
 
@@ -52,10 +70,20 @@ impl History {
         ensures entries { self.new.entries ≡ self.old.entries ++ entry ∷ [] }
         ensures spare { self.old.spare ≤ self.new.spare + 1 }
     {
+        if is_accepted_step(&entry) {
+            self.steps += 1;
+        }
         match self.entries.push(entry) {
             Ok(()) => {}
             Err(_) => unreachable!(),
         }
+    }
+
+    /// How many entries are steps that were accepted.
+    pub fn steps(&self) -> u64
+        ensures { result ≡ accepted_steps self.now.entries }
+    {
+        self.steps
     }
 
     pub fn len(&self) -> usize

@@ -12,11 +12,11 @@ ghost use Rattle.sc_types.specs.declared.host.SessionImage.{SessionImage};
 
 use crate::body::Body;
 use crate::cues::cue_of;
+use crate::handed::turn_by;
 use crate::host_state::HostState;
-use crate::plans::turn_of;
 use crate::prepared::Prepared;
 use sc_base::{NoMemory, Plain, Word};
-use sc_law::Engine;
+use sc_law::{Engine, Turned};
 use sc_types::{Command, Cue, Phase, Refusal};
 use std::alloc::Global;
 
@@ -39,13 +39,14 @@ impl<P: Drop> Body<P> {
     }
 }
 
-/// Prepares the step of the session at a place, which has this cue.
+/// Prepares the step of the session at a place, which has this cue; its turn may have been computed before.
 fn draft_turn<E: Engine>(
     alloc: Global,
     e: &E,
     body: &mut Body<E::Plan>,
     place: usize,
     cue: &Cue,
+    handed: Option<Turned>,
 ) -> Result<Prepared<E::Plan>, NoMemory>
     requires held { IsHeld E.chart_of body.old }
     requires room { body.old.commands ≤ 2 ^ 48 }
@@ -61,18 +62,19 @@ fn draft_turn<E: Engine>(
         → FitsOn (image body.old) s cue.now) }
 {
     body.settle(place)?;
-    let turned = turn_of(alloc, e, body, place, cue)?;
+    let turned = turn_by(alloc, e, body, place, cue, handed)?;
     // A turn's type keeps that it is the turn of its chart.
     let _chart = turned.chart();
     body.draft_turn(alloc, place, cue, turned)
 }
 
-/// Prepares that a session takes the turn of its cue.
-fn draft_step<E: Engine>(
+/// Prepares that a session takes the turn of its cue, which may have been computed before.
+pub(crate) fn draft_step<E: Engine>(
     alloc: Global,
     e: &E,
     body: &mut Body<E::Plan>,
     session: &Word,
+    handed: Option<Turned>,
 ) -> Result<Prepared<E::Plan>, NoMemory>
     requires held { IsHeld E.chart_of body.old }
     requires room { body.old.commands ≤ 2 ^ 48 }
@@ -84,7 +86,7 @@ fn draft_step<E: Engine>(
     ensures fits { OnOk result (StepFits (image body.old) (command.Step session.now)) }
 {
     match body.next_step(session)? {
-        Ok((place, cue)) => draft_turn(alloc, e, body, place, &cue),
+        Ok((place, cue)) => draft_turn(alloc, e, body, place, &cue, handed),
         Err(why) => Ok(Prepared::refused(alloc, why)),
     }
 }
@@ -114,7 +116,7 @@ fn draft<E: Engine>(
         } => body.draft_post(alloc, session, event, pairs),
         Command::Tick { ticks } => body.draft_tick(alloc, *ticks),
         Command::Cancel { session } => body.draft_cancel(alloc, session),
-        Command::Step { session } => draft_step(alloc, e, body, session),
+        Command::Step { session } => draft_step(alloc, e, body, session, None),
     }
 }
 
