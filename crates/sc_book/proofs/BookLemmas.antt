@@ -574,6 +574,7 @@ module _ {D : Type 0} (tells : Type 0) (leaves : D → DiskOf → Type 0) (left 
         start = moment j.disk;
         moments = [];
         doubts = [];
+        claims = [];
         journal = j;
       })
   begun past bodies j accepted spell none next keeps =

@@ -1,3 +1,4 @@
 pub mod AnswerLemmas
 pub mod BookLemmas
+pub mod ClaimLemmas
 pub mod OpenLemmas

@@ -20,6 +20,7 @@ use Rattle.sc_dev.specs.Disks.{DiskOf}
 use Rattle.sc_journal.specs.Journals.{JournalOf, Keeps, StandsAt}
 use Rattle.sc_journal.specs.Texts.{HeadOf}
 use Rattle.sc_core.proofs.AcceptedLemmas.{accepted_more, after_append, after_counts}
+use Rattle.sc_rooms.specs.Rooms.{PlacesOf}
 use Rattle.sc_types.specs.declared.command.Command.{Command}
 use Rattle.sc_types.specs.declared.host.HostImage.{HostImage}
 
@@ -167,12 +168,12 @@ stands_same d n opened g h s r long =
 module _ {D : Type 0} (tells : Type 0) (leaves : D → DiskOf → Type 0) (left : D → ℕ → DiskOf → Type 0) (moment : D → ℕ)
     (only_now : (disk : D) (d : DiskOf) → moment disk < 2 ^ 64 - 1 → left disk (moment disk) d → leaves disk d) where
   -- a journal that was opened, and the host after its bodies
-  pub begun_as : (bodies : List (List ℕ)) (h : HostOf) (n s first : ℕ) (log : Log) (j : JournalOf D)
+  pub begun_as : (bodies : List (List ℕ)) (h : HostOf) (n s first : ℕ) (log : Log) (q : PlacesOf) (j : JournalOf D)
       → IsReplayed bodies h.image → n ≡ length bodies → s ≡ moment j.disk → log.history.entries ≡ [] → log.moments.items ≡ []
-      → log.doubts.items ≡ [] → j.doubt ≡ None → first ≡ 1 → j.next ≡ first + length bodies
+      → log.doubts.items ≡ [] → q.places ≡ [] → j.doubt ≡ None → first ≡ 1 → j.next ≡ first + length bodies
       → (tells → Keeps tells leaves j (record { format = 1; first = first }) bodies)
-      → IsOpened tells leaves left moment (book_of h n s log j)
-  begun_as bodies h n s first log j r long start history moments doubts none one next keeps =
+      → IsOpened tells leaves left moment (book_of h n s log q j)
+  begun_as bodies h n s first log q j r long start history moments doubts claims none one next keeps =
       let count = length_spell bodies r.commands r.spell in
       let head : tells → Keeps tells leaves j (record { format = 1; first = 1 }) bodies =
       λ told. subst (λ k. Keeps tells leaves j (record { format = 1; first = k }) bodies) one (keeps told) in
@@ -185,12 +186,14 @@ module _ {D : Type 0} (tells : Type 0) (leaves : D → DiskOf → Type 0) (left 
           start = moment j.disk;
           moments = [];
           doubts = [];
+          claims = [];
           journal = j;
-        }) (book_of h n s log j) r.host (long ∙ count) history start moments doubts refl)
+        }) (book_of h n s log q j) r.host (long ∙ count) history start moments doubts claims refl)
             (begun tells leaves left moment only_now r.commands bodies j r.accepted r.spell none
             (next ∙ ap (λ k. k + length bodies) one) head);
         history = history;
         doubts = doubts;
+        claims = claims;
         start = start;
       }
 

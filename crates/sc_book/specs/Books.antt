@@ -18,7 +18,8 @@ use Rattle.sc_types.specs.declared.history.Entry.{Entry}
 use Rattle.sc_types.specs.declared.host.HostImage.{HostImage}
 
 -- A book: the host, how many commands the journal held at the opening, what happened since, the disk's moment at the end
--- of the opening and at the end of each entry, the commands that a fault left in doubt, and the journal.
+-- of the opening and at the end of each entry, the commands that a fault left in doubt, the places of the sessions that
+-- workers took to step, ascending, and the journal.
 pub record BookOf (D : Type 0) : Type 0 where
   pub host : HostImage
   pub opened : ℕ
@@ -26,6 +27,7 @@ pub record BookOf (D : Type 0) : Type 0 where
   pub start : ℕ
   pub moments : List ℕ
   pub doubts : List Doubt
+  pub claims : List ℕ
   pub journal : JournalOf D
 
 -- the host at the opening, after the commands that the journal held
@@ -101,3 +103,9 @@ pub record IsBook {D : Type 0} (tells : Type 0) (may_leave : D → DiskOf → Ty
   -- Since each of these moments a stop leaves what was accepted until then, and what was accepted later in part.
   pub images : tells → (k m : ℕ) → slice_get (b.start ∷ b.moments) k ≡ Some m → m < 2 ^ 64 - 1
       → (d : DiskOf) → may_have_left b.journal.disk m d → IsSince past b.history b.doubts k d
+
+-- a book whose journal held some commands at the opening
+pub record IsSome {D : Type 0} (tells : Type 0) (may_leave : D → DiskOf → Type 0)
+    (may_have_left : D → ℕ → DiskOf → Type 0) (moment : D → ℕ) (b : BookOf D) : Type 0 where
+  pub past : List Command
+  pub is : IsBook tells may_leave may_have_left moment past b

@@ -1,32 +1,27 @@
 -- How a book keeps what it holds. Only private clauses cite these definitions.
-use Rattle.std.specs.Prelude.{ℕ, ◌<◌, ◌≡◌, ◌++◌, ◌∷◌, [], List, length}
-use Rattle.sc_book.specs.Books.{BookOf, IsBook}
+use Rattle.std.specs.Prelude.{ℕ, ◌<◌, ◌≡◌, ◌++◌, ◌∷◌, [], length}
+use Rattle.sc_book.specs.Books.{BookOf}
 use Rattle.sc_book.specs.declared.doubt.Doubt.{Doubt}
 use Rattle.sc_book.specs.declared.fault.CallFault.{CallFault}
 use Rattle.sc_book.specs.declared.fault.CallFault.TheVariants.{Disk}
 use Rattle.sc_book.specs.declared.log.Log.{Log}
 use Rattle.sc_core.specs.HostStates.{HostOf}
-use Rattle.sc_dev.specs.Disks.{DiskOf}
 use Rattle.sc_journal.specs.Journals.{JournalOf}
+use Rattle.sc_rooms.specs.Rooms.{PlacesOf}
 use Rattle.sc_types.specs.declared.command.Command.{Command}
 use Rattle.sc_types.specs.declared.history.Who.{Who}
 
-abbrev pub book_of : {D : Type 0} → HostOf → ℕ → ℕ → Log → JournalOf D → BookOf D
-book_of host opened start log journal = record {
+abbrev pub book_of : {D : Type 0} → HostOf → ℕ → ℕ → Log → PlacesOf → JournalOf D → BookOf D
+book_of host opened start log claims journal = record {
   host = host.image;
   opened = opened;
   history = log.history.entries;
   start = start;
   moments = log.moments.items;
   doubts = log.doubts.items;
+  claims = claims.places;
   journal = journal;
 }
-
--- a book whose journal held some commands at the opening
-pub record IsSome {D : Type 0} (tells : Type 0) (may_leave : D → DiskOf → Type 0)
-    (may_have_left : D → ℕ → DiskOf → Type 0) (moment : D → ℕ) (b : BookOf D) : Type 0 where
-  pub past : List Command
-  pub is : IsBook tells may_leave may_have_left moment past b
 
 -- the same entries, moments and doubts
 pub record IsSameLog (old new : Log) : Type 0 where

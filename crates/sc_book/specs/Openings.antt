@@ -20,6 +20,7 @@ pub record IsOpened {D : Type 0} (tells : Type 0) (may_leave : D → DiskOf → 
   pub book : IsBook tells may_leave may_have_left moment past b
   pub history : b.history ≡ []
   pub doubts : b.doubts ≡ []
+  pub claims : b.claims ≡ []
   pub start : b.start ≡ moment b.journal.disk
 
 -- the disk failed, or memory was wanting

@@ -1,5 +1,5 @@
 -- What a call of a book does. This host's own rule.
-use Rattle.std.specs.Prelude.{◌+◌, ◌≡◌, ◌⊎◌, ◌∷◌, ◌++◌, [], true, List, length}
+use Rattle.std.specs.Prelude.{ℕ, ◌+◌, ◌≡◌, ◌≤◌, ◌⊎◌, ◌∷◌, ◌++◌, [], true, List, length}
 use Rattle.sc_book.specs.Books.{BookOf, IsAt, IsInDoubt, count_after}
 use Rattle.sc_book.specs.Images.{StandsFor}
 use Rattle.sc_book.specs.declared.doubt.Doubt.{Doubt}
@@ -51,10 +51,19 @@ abbrev pub Doubts : {D : Type 0} → Who → Command → BookOf D → BookOf D �
 Doubts who c old new Disk = (new.doubts ≡ old.doubts) ⊎ IsDoubted who c old new
 Doubts who c old new fault = new.doubts ≡ old.doubts
 
+-- the most bytes of the body of a command that a host accepts
+abbrev pub most_body : ℕ
+most_body = 2097152
+
 -- the host would accept the command, and the journal has no room for it
 pub record HasNoRoom {D : Type 0} (c : Command) (b : BookOf D) : Type 0 where
   pub accepted : is_accepted (answer b.host c).reply ≡ true
   pub full : IsFull b.journal.end b.journal.next (length (body_of c))
+
+-- what the journal holds never gets less
+pub record Grows {D : Type 0} (old new : BookOf D) : Type 0 where
+  pub end : old.journal.end ≤ new.journal.end
+  pub next : old.journal.next ≤ new.journal.next
 
 -- What a stop leaves while a call runs: what was accepted before it; that and the command of the call; or, until it was
 -- taken back, that and the command which an earlier fault left in doubt.

@@ -1,5 +1,5 @@
 ghost use Rattle.std.specs.Prelude.{◌≡◌, List};
-ghost use Rattle.sc_book.specs.Books.{IsBook};
+ghost use Rattle.sc_book.specs.Books.{IsSome};
 ghost use Rattle.sc_types.specs.declared.command.Command.{Command};
 
 use crate::log::Log;
@@ -7,6 +7,7 @@ use sc_core::{Closed, History, HostState};
 use sc_dev::Disk;
 use sc_journal::Journal;
 use sc_law::Engine;
+use sc_rooms::Places;
 use std::marker::Model;
 
 /// A host over a journal that was opened, and what happened since. Every accepted command stands in the journal before it
@@ -18,6 +19,8 @@ pub struct Book<'e, E: Engine, D: Disk> {
     pub(crate) opened: u64,
     pub(crate) start: u64,
     pub(crate) log: Log,
+    /// The places of the sessions that workers took to step.
+    pub(crate) claims: Places,
     pub(crate) journal: Journal<D>,
 }
 
@@ -32,18 +35,25 @@ impl<'e, E: Engine, D: Disk> Model for Book<'e, E, D> {
 
     ghost coded = { Prim.hlevel (codes, host_type.the_row.coded, entry_type.the_row.coded, command_type.the_row.coded, D.code) };
 
-    ghost use Rattle.sc_book.specs.Keeping.{book_of, IsSome};
+    ghost use Rattle.sc_book.specs.Books.{IsSome};
+    ghost use Rattle.sc_book.specs.Keeping.{book_of};
 
-    ghost view = { λ b. book_of b.host b.opened b.start b.log b.journal };
+    ghost view = { λ b. book_of b.host b.opened b.start b.log b.claims b.journal };
 
     ghost invariant = { λ b. IsSome D.tells D.may_leave D.may_have_left D.moment
-        (book_of b.host b.opened b.start b.log b.journal) };
+        (book_of b.host b.opened b.start b.log b.claims b.journal) };
 }
 
 impl<'e, E: Engine, D: Disk> Book<'e, E, D> {
+    /// What computes turns.
+    pub fn engine(&self) -> &'e E {
+        self.engine
+    }
+
     /// The host as it stands.
     pub fn host(&self) -> &HostState<E>
-        ensures { result.now.image ≡ self.now.host }
+        ensures host { result.now.image ≡ self.now.host }
+        ensures book { IsSome D.tells D.may_leave D.may_have_left D.moment self.now }
     {
         &self.host
     }

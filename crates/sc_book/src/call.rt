@@ -1,7 +1,8 @@
 ghost use Rattle.std.specs.Prelude.{◌≡◌, ◌≢◌, ◌⊎◌, ◌<◌, ◌≤◌, ◌^◌, ◌+◌, ◌++◌, ◌∷◌, [], None, Some, Err, IfOk, OnOk, OnErr, IfErr, List, length};
 ghost use Rattle.sc_book.specs.Books.{IsBook};
 ghost use Rattle.sc_book.specs.Keeping.{HasRoom, IsSameLog, StoreDoubts};
-ghost use Rattle.sc_book.specs.Receipts.{Acknowledges, Doubts, HasNoRoom, IsAllOrDoubted, IsAllOrMore, IsDuring, IsUnanswered};
+ghost use Rattle.sc_book.specs.Receipts.{Acknowledges, Doubts, Grows, HasNoRoom, IsAllOrDoubted, IsAllOrMore, IsDuring, IsUnanswered, most_body};
+ghost use Rattle.sc_codec.specs.Bodies.{body_of};
 ghost use Rattle.sc_dev.specs.Causes.{HasCause, Rose};
 ghost use Rattle.sc_journal.specs.Journals.{IsFull, IsWithOrWithout, Keeps};
 ghost use Rattle.sc_journal.specs.Stops.{LeavesOnly};
@@ -18,7 +19,7 @@ use sc_base::Bytes;
 use sc_core::Prepared;
 use sc_dev::Disk;
 use sc_journal::{AppendFault, Journal};
-use sc_law::Engine;
+use sc_law::{Engine, Turned};
 use sc_types::{Command, Entry, Who};
 use std::alloc::Global;
 
@@ -34,10 +35,13 @@ impl<'e, E: Engine, D: Disk> Book<'e, E, D> {
         ensures doubts { IfErr result (Doubts who command self.old self.new) }
         ensures opened { self.new.opened ≡ self.old.opened }
         ensures start { self.new.start ≡ self.old.start }
+        ensures claims { self.new.claims ≡ self.old.claims }
 
         // exactly where the host would accept the command and the journal has no room for it
         ensures full { result ≡ Err CallFault.Full → HasNoRoom command self.old }
         ensures no_room { HasNoRoom command self.old → IfOk result (λ _. ⊥) }
+        ensures fits { result ≡ Err CallFault.Full → length (body_of command) ≤ most_body }
+        ensures grows { Grows self.old self.new }
 
         // only where the disk's faults rose in this call
         ensures disk { result ≡ Err CallFault.Disk
@@ -54,11 +58,11 @@ impl<'e, E: Engine, D: Disk> Book<'e, E, D> {
             (IsDuring past self.old command) }
     {
         self.settle()?;
-        self.answer(alloc, who, command)
+        self.answer(alloc, who, command, None)
     }
 
     /// Takes back what an earlier fault left in doubt.
-    fn settle(&mut self) -> Result<(), CallFault>
+    pub(crate) fn settle(&mut self) -> Result<(), CallFault>
         ensures ok { OnOk result (self.new.journal.doubt ≡ None) }
         ensures err { IfErr result (λ fault. fault ≡ CallFault.Disk) }
         ensures book { self.new ≡ record self.old { journal = self.new.journal } }
@@ -77,16 +81,25 @@ impl<'e, E: Engine, D: Disk> Book<'e, E, D> {
         Ok(())
     }
 
-    /// Answers a command where nothing is in doubt.
-    fn answer(&mut self, alloc: Global, who: Who, command: Command) -> Result<Receipt, CallFault>
+    /// Answers a command where nothing is in doubt; a step with the turn that a worker computed of it, where there is one.
+    pub(crate) fn answer(
+        &mut self,
+        alloc: Global,
+        who: Who,
+        command: Command,
+        turned: Option<Turned>,
+    ) -> Result<Receipt, CallFault>
         requires settled { self.old.journal.doubt ≡ None }
         ensures ok { IfOk result (Acknowledges who command self.old self.new) }
         ensures err { OnErr result (IsUnanswered self.old self.new) }
         ensures doubts { IfErr result (Doubts who command self.old self.new) }
         ensures opened { self.new.opened ≡ self.old.opened }
         ensures start { self.new.start ≡ self.old.start }
+        ensures claims { self.new.claims ≡ self.old.claims }
         ensures full { result ≡ Err CallFault.Full → HasNoRoom command self.old }
         ensures no_room { HasNoRoom command self.old → IfOk result (λ _. ⊥) }
+        ensures fits { result ≡ Err CallFault.Full → length (body_of command) ≤ most_body }
+        ensures grows { Grows self.old self.new }
         ensures disk { result ≡ Err CallFault.Disk
             → Rose (D.faults self.old.journal.disk) (D.faults self.new.journal.disk) }
         ensures later { D.faults self.old.journal.disk ≤ D.faults self.new.journal.disk }
@@ -104,7 +117,14 @@ impl<'e, E: Engine, D: Disk> Book<'e, E, D> {
             mut prepared,
             receipt,
             body,
-        } = draft_entry(alloc, self.engine, &mut self.host, &mut self.log, &command)?;
+        } = draft_entry(
+            alloc,
+            self.engine,
+            &mut self.host,
+            &mut self.log,
+            &command,
+            turned,
+        )?;
         match body {
             Some(body) => {
                 let command = store(&mut self.journal, &mut self.log, who, command, &body)?;
@@ -168,6 +188,7 @@ fn store<D: Disk>(
     ensures not_added { OnErr result ((journal.new.next ≡ journal.old.next)
         × ((journal.new.doubt ≡ None) ⊎ (journal.new.doubt ≡ Some body.now))) }
     ensures untouched { result ≡ Err CallFault.Full → journal.new ≡ journal.old }
+    ensures grows { (journal.old.end ≤ journal.new.end) × (journal.old.next ≤ journal.new.next) }
     ensures time { OnOk result (Rose (D.moment journal.old.disk) (D.moment journal.new.disk)) }
     ensures elapsed { D.moment journal.old.disk ≤ D.moment journal.new.disk }
     ensures same { D.identity journal.new.disk ≡ D.identity journal.old.disk }

@@ -4,13 +4,14 @@ ghost use Rattle.sc_book.specs.Keeping.{HasRoom, IsSameLog};
 ghost use Rattle.sc_core.specs.Accepted.{is_accepted};
 ghost use Rattle.sc_core.specs.Commands.{Answer, answer};
 ghost use Rattle.sc_core.specs.HostStates.{CanInstall};
+ghost use Rattle.sc_core.specs.Preparing.{Prepares};
 
 use crate::log::Log;
 use crate::receipt::Receipt;
 use sc_base::{Bytes, NoMemory, Plain};
 use sc_codec::{encode, is_encodable};
 use sc_core::{HostState, Prepared};
-use sc_law::Engine;
+use sc_law::{Engine, Turned};
 use sc_types::{Command, Reply};
 use std::alloc::Global;
 
@@ -64,6 +65,24 @@ fn journaled(alloc: Global, command: &Command, reply: &Reply) -> Result<Option<B
     }
 }
 
+/// Prepares a command; a step with the turn that a worker computed of it, where there is one.
+fn prepare<E: Engine>(
+    engine: &E,
+    host: &mut HostState<E>,
+    command: &Command,
+    turned: Option<Turned>,
+) -> Result<Prepared<E::Plan>, NoMemory>
+    requires room { host.old.image.commands ≤ 2 ^ 48 }
+    ensures image { host.new.image ≡ host.old.image }
+    ensures answer { IfOk result (Prepares (answer host.old.image command.now) host.old.image) }
+    ensures can { IfOk result (λ p. CanInstall E.chart_of host.new p.changes) }
+{
+    match (command, turned) {
+        (Command::Step { session }, Some(turned)) => host.prepare_turned(engine, session, turned),
+        _ => host.prepare(engine, command),
+    }
+}
+
 /// Answers a command, and makes all memory of its entry. The host and the log stay as they are.
 pub(crate) fn draft_entry<E: Engine>(
     alloc: Global,
@@ -71,6 +90,7 @@ pub(crate) fn draft_entry<E: Engine>(
     host: &mut HostState<E>,
     log: &mut Log,
     command: &Command,
+    turned: Option<Turned>,
 ) -> Result<Draft<E::Plan>, NoMemory>
     requires room { host.old.image.commands ≤ 2 ^ 48 }
     ensures image { host.new.image ≡ host.old.image }
@@ -81,7 +101,7 @@ pub(crate) fn draft_entry<E: Engine>(
     ensures can { IfOk result (λ d. CanInstall E.chart_of host.new d.prepared.changes) }
 {
     log.reserve()?;
-    let prepared = host.prepare(engine, command)?;
+    let prepared = prepare(engine, host, command, turned)?;
     let number = (log.history.len() as u64).checked_add(1).ok_or(NoMemory)?;
     let receipt = receipt_of(&prepared, number)?;
     let body = journaled(alloc, command, &prepared.reply)?;

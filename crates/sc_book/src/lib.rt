@@ -6,15 +6,19 @@
 
 mod book;
 mod call;
+mod claims;
+mod commit;
 mod doubt;
 mod draft;
 mod fault;
 mod log;
 mod opening;
 mod receipt;
+mod ticket;
 
 pub use book::Book;
 pub use doubt::Doubt;
 pub use fault::{CallFault, OpenFault};
 pub use opening::NotOpened;
 pub use receipt::Receipt;
+pub use ticket::Ticket;

@@ -17,6 +17,7 @@ use sc_core::HostState;
 use sc_dev::Disk;
 use sc_journal::{Bodies, Journal, JournalFault, Opened};
 use sc_law::Engine;
+use sc_rooms::Places;
 use sc_types::{Command, Reply};
 use std::alloc::Global;
 
@@ -215,6 +216,7 @@ impl<'e, E: Engine, D: Disk> Book<'e, E, D> {
                     opened: count,
                     start,
                     log: Log::new(alloc),
+                    claims: Places::new(alloc),
                     journal,
                 })
             }

@@ -19,7 +19,7 @@ draft_entry-requires-clause-room g c =
     let S = g.D.Disk.may_have_left in
     let M = g.D.Disk.moment in
     let i = c.self.inside in
-    let b : BookOf g.row.D.Denot = book_of i.host i.opened i.start i.log i.journal in
+    let b : BookOf g.row.D.Denot = book_of i.host i.opened i.start i.log i.claims i.journal in
     let none : i.journal.doubt ≡ None = ap (λ (x : BookOf g.row.D.Denot). x.journal.doubt) c.self.view_is ∙ c.requires.settled in
     let count = counted T L S M laws.only_now c.self.invariant.past b c.self.invariant.is in
     omega (arith, count, c.next_number-next.ensures.value, c.next_number-next.ensures.limit)
@@ -32,7 +32,7 @@ returns-in_err-prepared-clause-any_moment g c = λ told past is.
     let S = g.D.Disk.may_have_left in
     let M = g.D.Disk.moment in
     let i = c.self.inside in
-    let b : BookOf g.row.D.Denot = book_of i.host i.opened i.start i.log i.journal in
+    let b : BookOf g.row.D.Denot = book_of i.host i.opened i.start i.log i.claims i.journal in
     let none : i.journal.doubt ≡ None = ap (λ (x : BookOf g.row.D.Denot). x.journal.doubt) c.self.view_is ∙ c.requires.settled in
     let now = subst (IsBook T L S M past) (sym c.self.view_is) is in
     subst (λ (x : BookOf g.row.D.Denot). LeavesOnly M S x.journal.disk i.journal.disk (IsAllOrMore past x c.args.command)) c.self.view_is
@@ -46,14 +46,14 @@ invariant_of-self-in_err-command-in-Some g c =
     let S = g.D.Disk.may_have_left in
     let M = g.D.Disk.moment in
     let i = c.self.inside in
-    let b : BookOf g.row.D.Denot = book_of i.host i.opened i.start i.log i.journal in
+    let b : BookOf g.row.D.Denot = book_of i.host i.opened i.start i.log i.claims i.journal in
     let none : i.journal.doubt ≡ None = ap (λ (x : BookOf g.row.D.Denot). x.journal.doubt) c.self.view_is ∙ c.requires.settled in
     let d = c.in_ok-prepared.ensures in
     let has = has_body _ c.args.command _ c.in-Some.body d.draft.body c.in-Some.is in
     let e = c.in_err-command-in-Some.ensures in
     record {
       past = c.self.invariant.past;
-      is = not_stored T L S M laws.only_now c.self.invariant.past i.host c.draft_entry.new.host i.opened i.start i.log c.draft_entry.new.log c.store.new.log
+      is = not_stored T L S M laws.only_now c.self.invariant.past i.claims i.host c.draft_entry.new.host i.opened i.start i.log c.draft_entry.new.log c.store.new.log
           i.journal c.store.new.journal c.args.who c.args.command c.in-Some.body c.in_err-command-in-Some.field-0.0 c.self.invariant.is d.image d.log
           e.history e.moments e.doubts (λ is. e.no_memory (ap Err is)) (λ is. e.untouched (ap Err is)) e.not_added.0 e.not_added.1 e.elapsed
           (λ bodies k. e.kept first_head bodies k) (λ bodies k. e.any_moment first_head bodies k) has.1 has.0;
@@ -67,13 +67,13 @@ returns-in_err-command-in-Some-clause-kept g c = λ past is.
     let S = g.D.Disk.may_have_left in
     let M = g.D.Disk.moment in
     let i = c.self.inside in
-    let b : BookOf g.row.D.Denot = book_of i.host i.opened i.start i.log i.journal in
+    let b : BookOf g.row.D.Denot = book_of i.host i.opened i.start i.log i.claims i.journal in
     let none : i.journal.doubt ≡ None = ap (λ (x : BookOf g.row.D.Denot). x.journal.doubt) c.self.view_is ∙ c.requires.settled in
     let now = subst (IsBook T L S M past) (sym c.self.view_is) is in
     let d = c.in_ok-prepared.ensures in
     let has = has_body _ c.args.command _ c.in-Some.body d.draft.body c.in-Some.is in
     let e = c.in_err-command-in-Some.ensures in
-    not_stored T L S M laws.only_now past i.host c.draft_entry.new.host i.opened i.start i.log c.draft_entry.new.log c.store.new.log
+    not_stored T L S M laws.only_now past i.claims i.host c.draft_entry.new.host i.opened i.start i.log c.draft_entry.new.log c.store.new.log
     i.journal c.store.new.journal c.args.who c.args.command c.in-Some.body c.in_err-command-in-Some.field-0.0 now d.image d.log
     e.history e.moments e.doubts (λ is. e.no_memory (ap Err is)) (λ is. e.untouched (ap Err is)) e.not_added.0 e.not_added.1 e.elapsed
     (λ bodies k. e.kept first_head bodies k) (λ bodies k. e.any_moment first_head bodies k) has.1 has.0
@@ -86,7 +86,7 @@ returns-in_err-command-in-Some-clause-any_moment g c = λ told past is.
     let S = g.D.Disk.may_have_left in
     let M = g.D.Disk.moment in
     let i = c.self.inside in
-    let b : BookOf g.row.D.Denot = book_of i.host i.opened i.start i.log i.journal in
+    let b : BookOf g.row.D.Denot = book_of i.host i.opened i.start i.log i.claims i.journal in
     let none : i.journal.doubt ≡ None = ap (λ (x : BookOf g.row.D.Denot). x.journal.doubt) c.self.view_is ∙ c.requires.settled in
     let now = subst (IsBook T L S M past) (sym c.self.view_is) is in
     let d = c.in_ok-prepared.ensures in
@@ -104,7 +104,7 @@ invariant_of-self-in-Some g c =
     let S = g.D.Disk.may_have_left in
     let M = g.D.Disk.moment in
     let i = c.self.inside in
-    let b : BookOf g.row.D.Denot = book_of i.host i.opened i.start i.log i.journal in
+    let b : BookOf g.row.D.Denot = book_of i.host i.opened i.start i.log i.claims i.journal in
     let none : i.journal.doubt ≡ None = ap (λ (x : BookOf g.row.D.Denot). x.journal.doubt) c.self.view_is ∙ c.requires.settled in
     let d = c.in_ok-prepared.ensures in
     let e = c.in_ok-command-in-Some.ensures in
@@ -120,7 +120,7 @@ invariant_of-self-in-Some g c =
     let has = has_body _ c.args.command _ c.in-Some.body d.draft.body c.in-Some.is in
     record {
       past = c.self.invariant.past;
-      is = stored T L S M laws.only_now c.self.invariant.past i.host c.install.new.self i.opened i.start i.log c.draft_entry.new.log c.store.new.log c.enter.new.self
+      is = stored T L S M laws.only_now c.self.invariant.past i.claims i.host c.install.new.self i.opened i.start i.log c.draft_entry.new.log c.store.new.log c.enter.new.self
           i.journal c.store.new.journal c.args.command c.entry_of.result c.moment-moment.result c.in-Some.body c.self.invariant.is d.log e.log.0 host
           c.enter.ensures.history c.enter.ensures.moments c.moment-moment.ensures c.enter.ensures.doubts
           (ap (λ (x : Entry). x.command) it ∙ e.command) told e.added.1 e.added.0 e.elapsed e.time
@@ -135,7 +135,7 @@ invariant_of-self-in-None g c =
     let S = g.D.Disk.may_have_left in
     let M = g.D.Disk.moment in
     let i = c.self.inside in
-    let b : BookOf g.row.D.Denot = book_of i.host i.opened i.start i.log i.journal in
+    let b : BookOf g.row.D.Denot = book_of i.host i.opened i.start i.log i.claims i.journal in
     let none : i.journal.doubt ≡ None = ap (λ (x : BookOf g.row.D.Denot). x.journal.doubt) c.self.view_is ∙ c.requires.settled in
     let d = c.in_ok-prepared.ensures in
     let denied = no_body _ c.args.command _ d.draft.body c.in-None.is in
@@ -148,7 +148,7 @@ invariant_of-self-in-None g c =
     } in
     record {
       past = c.self.invariant.past;
-      is = not_accepted T L S M laws.only_now c.self.invariant.past i.host c.draft_entry.new.host i.opened i.start i.log c.draft_entry.new.log
+      is = not_accepted T L S M laws.only_now c.self.invariant.past i.claims i.host c.draft_entry.new.host i.opened i.start i.log c.draft_entry.new.log
           c.enter-in-None.new.self i.journal c.args.command c.entry_of-in-None.result c.moment-moment-in-None.result c.self.invariant.is d.log d.image
           c.enter-in-None.ensures.history c.enter-in-None.ensures.moments c.moment-moment-in-None.ensures c.enter-in-None.ensures.doubts
           (ap (λ (x : Entry). x.command) it) told none denied;
@@ -162,7 +162,7 @@ returns-in_ok-command-in-Some-clause-kept g c = λ past is.
     let S = g.D.Disk.may_have_left in
     let M = g.D.Disk.moment in
     let i = c.self.inside in
-    let b : BookOf g.row.D.Denot = book_of i.host i.opened i.start i.log i.journal in
+    let b : BookOf g.row.D.Denot = book_of i.host i.opened i.start i.log i.claims i.journal in
     let none : i.journal.doubt ≡ None = ap (λ (x : BookOf g.row.D.Denot). x.journal.doubt) c.self.view_is ∙ c.requires.settled in
     let now = subst (IsBook T L S M past) (sym c.self.view_is) is in
     let d = c.in_ok-prepared.ensures in
@@ -177,7 +177,7 @@ returns-in_ok-command-in-Some-clause-kept g c = λ past is.
     } in
     let host : c.install.new.self.image ≡ (answer i.host.image c.args.command).host = search rules in
     let has = has_body _ c.args.command _ c.in-Some.body d.draft.body c.in-Some.is in
-    stored T L S M laws.only_now past i.host c.install.new.self i.opened i.start i.log c.draft_entry.new.log c.store.new.log c.enter.new.self
+    stored T L S M laws.only_now past i.claims i.host c.install.new.self i.opened i.start i.log c.draft_entry.new.log c.store.new.log c.enter.new.self
     i.journal c.store.new.journal c.args.command c.entry_of.result c.moment-moment.result c.in-Some.body now d.log e.log.0 host
     c.enter.ensures.history c.enter.ensures.moments c.moment-moment.ensures c.enter.ensures.doubts
     (ap (λ (x : Entry). x.command) it ∙ e.command) told e.added.1 e.added.0 e.elapsed e.time
@@ -191,7 +191,7 @@ returns-in_ok-command-in-Some-clause-any_moment g c = λ told past is.
     let S = g.D.Disk.may_have_left in
     let M = g.D.Disk.moment in
     let i = c.self.inside in
-    let b : BookOf g.row.D.Denot = book_of i.host i.opened i.start i.log i.journal in
+    let b : BookOf g.row.D.Denot = book_of i.host i.opened i.start i.log i.claims i.journal in
     let none : i.journal.doubt ≡ None = ap (λ (x : BookOf g.row.D.Denot). x.journal.doubt) c.self.view_is ∙ c.requires.settled in
     let now = subst (IsBook T L S M past) (sym c.self.view_is) is in
     let d = c.in_ok-prepared.ensures in
@@ -204,7 +204,7 @@ returns-in_ok-command-in-Some-clause-any_moment g c = λ told past is.
 pub returns-in-None-clause-ok : goal.returns-in-None-clause-ok
 returns-in-None-clause-ok g c =
     let i = c.self.inside in
-    let b : BookOf g.row.D.Denot = book_of i.host i.opened i.start i.log i.journal in
+    let b : BookOf g.row.D.Denot = book_of i.host i.opened i.start i.log i.claims i.journal in
     let d = c.in_ok-prepared.ensures in
     let denied = no_body _ c.args.command _ d.draft.body c.in-None.is in
     let p = d.draft.prepares in
@@ -221,7 +221,7 @@ returns-in-None-clause-ok g c =
     let history : c.enter-in-None.new.self.history.entries ≡ i.log.history.entries ++ e ∷ [] =
     after.history ∙ ap (λ (es : List Entry). es ++ e ∷ []) d.log.history in
     subst (λ (x : BookOf g.row.D.Denot). Acknowledges c.args.who c.args.command x
-    (book_of c.draft_entry.new.host i.opened i.start c.enter-in-None.new.self i.journal) c.in_ok-prepared.field-0.receipt) c.self.view_is
+    (book_of c.draft_entry.new.host i.opened i.start c.enter-in-None.new.self i.claims i.journal) c.in_ok-prepared.field-0.receipt) c.self.view_is
     (record {
       entry = e;
       history = history;
@@ -244,7 +244,7 @@ returns-in-None-clause-kept g c = λ past is.
     let S = g.D.Disk.may_have_left in
     let M = g.D.Disk.moment in
     let i = c.self.inside in
-    let b : BookOf g.row.D.Denot = book_of i.host i.opened i.start i.log i.journal in
+    let b : BookOf g.row.D.Denot = book_of i.host i.opened i.start i.log i.claims i.journal in
     let none : i.journal.doubt ≡ None = ap (λ (x : BookOf g.row.D.Denot). x.journal.doubt) c.self.view_is ∙ c.requires.settled in
     let now = subst (IsBook T L S M past) (sym c.self.view_is) is in
     let d = c.in_ok-prepared.ensures in
@@ -256,7 +256,7 @@ returns-in-None-clause-kept g c = λ past is.
       logs = ap (λ (x : Entry). x.logs) it ∙ p.logs;
       sent = ap (λ (x : Entry). x.sent) it ∙ p.sent;
     } in
-    not_accepted T L S M laws.only_now past i.host c.draft_entry.new.host i.opened i.start i.log c.draft_entry.new.log
+    not_accepted T L S M laws.only_now past i.claims i.host c.draft_entry.new.host i.opened i.start i.log c.draft_entry.new.log
     c.enter-in-None.new.self i.journal c.args.command c.entry_of-in-None.result c.moment-moment-in-None.result now d.log d.image
     c.enter-in-None.ensures.history c.enter-in-None.ensures.moments c.moment-moment-in-None.ensures c.enter-in-None.ensures.doubts
     (ap (λ (x : Entry). x.command) it) told none denied
@@ -269,7 +269,7 @@ returns-in-None-clause-any_moment g c = λ told past is.
     let S = g.D.Disk.may_have_left in
     let M = g.D.Disk.moment in
     let i = c.self.inside in
-    let b : BookOf g.row.D.Denot = book_of i.host i.opened i.start i.log i.journal in
+    let b : BookOf g.row.D.Denot = book_of i.host i.opened i.start i.log i.claims i.journal in
     let none : i.journal.doubt ≡ None = ap (λ (x : BookOf g.row.D.Denot). x.journal.doubt) c.self.view_is ∙ c.requires.settled in
     let now = subst (IsBook T L S M past) (sym c.self.view_is) is in
     subst (λ (x : BookOf g.row.D.Denot). LeavesOnly M S x.journal.disk i.journal.disk (IsAllOrMore past x c.args.command)) c.self.view_is

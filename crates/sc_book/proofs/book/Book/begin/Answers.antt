@@ -14,8 +14,8 @@ invariant_of-result g c =
     let long : c.len-count.result ≡ length bodies = search rules in
     let first : c.args.opened.first ≡ 1 = r.first in
     let opened = begun_as T L S M laws.only_now bodies c.in-Ok.host c.len-count.result c.moment-start.result
-    c.args.opened.first c.new.result c.args.opened.journal r.ok long c.moment-start.ensures
-    c.new.ensures.history c.new.ensures.moments c.new.ensures.doubts c.requires.settled first c.requires.next c.requires.keeps in
+    c.args.opened.first c.new.result c.new-in-Ok.result c.args.opened.journal r.ok long c.moment-start.ensures
+    c.new.ensures.history c.new.ensures.moments c.new.ensures.doubts c.new-in-Ok.ensures c.requires.settled first c.requires.next c.requires.keeps in
     record { past = opened.past; is = opened.book }
 
 pub returns-in-Ok-clause-opened : goal.returns-in-Ok-clause-opened
@@ -30,8 +30,8 @@ returns-in-Ok-clause-opened g c =
     let long : c.len-count.result ≡ length bodies = search rules in
     let first : c.args.opened.first ≡ 1 = r.first in
     let opened = begun_as T L S M laws.only_now bodies c.in-Ok.host c.len-count.result c.moment-start.result
-    c.args.opened.first c.new.result c.args.opened.journal r.ok long c.moment-start.ensures
-    c.new.ensures.history c.new.ensures.moments c.new.ensures.doubts c.requires.settled first c.requires.next c.requires.keeps in
+    c.args.opened.first c.new.result c.new-in-Ok.result c.args.opened.journal r.ok long c.moment-start.ensures
+    c.new.ensures.history c.new.ensures.moments c.new.ensures.doubts c.new-in-Ok.ensures c.requires.settled first c.requires.next c.requires.keeps in
     opened
 
 pub returns-in-Err-clause-bad : goal.returns-in-Err-clause-bad

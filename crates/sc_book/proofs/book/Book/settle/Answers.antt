@@ -14,7 +14,7 @@ invariant_of-self g c =
     let S = g.D.Disk.may_have_left in
     let M = g.D.Disk.moment in
     let i = c.self.inside in
-    let b : BookOf g.row.D.Denot = book_of i.host i.opened i.start i.log i.journal in
+    let b : BookOf g.row.D.Denot = book_of i.host i.opened i.start i.log i.claims i.journal in
     let j = c.settle.new.self in
     let e = c.in_err-settle.ensures in
     record {
@@ -31,7 +31,7 @@ returns-in_err-settle-clause-kept g c = λ past is.
     let S = g.D.Disk.may_have_left in
     let M = g.D.Disk.moment in
     let i = c.self.inside in
-    let b : BookOf g.row.D.Denot = book_of i.host i.opened i.start i.log i.journal in
+    let b : BookOf g.row.D.Denot = book_of i.host i.opened i.start i.log i.claims i.journal in
     let j = c.settle.new.self in
     let e = c.in_err-settle.ensures in
     settled T L S M laws.only_now past b j (subst (IsBook T L S M past) (sym c.self.view_is) is) e.next (inr e.doubtful) e.elapsed
@@ -45,7 +45,7 @@ returns-in_err-settle-clause-any_moment g c = λ told past is.
     let S = g.D.Disk.may_have_left in
     let M = g.D.Disk.moment in
     let i = c.self.inside in
-    let b : BookOf g.row.D.Denot = book_of i.host i.opened i.start i.log i.journal in
+    let b : BookOf g.row.D.Denot = book_of i.host i.opened i.start i.log i.claims i.journal in
     let j = c.settle.new.self in
     let e = c.in_err-settle.ensures in
     subst (λ (x : BookOf g.row.D.Denot). LeavesOnly M S x.journal.disk j.disk (IsAllOrDoubted past x)) c.self.view_is
@@ -60,7 +60,7 @@ invariant_of-self-2 g c =
     let S = g.D.Disk.may_have_left in
     let M = g.D.Disk.moment in
     let i = c.self.inside in
-    let b : BookOf g.row.D.Denot = book_of i.host i.opened i.start i.log i.journal in
+    let b : BookOf g.row.D.Denot = book_of i.host i.opened i.start i.log i.claims i.journal in
     let j = c.settle.new.self in
     let e = c.in_ok-settle.ensures in
     record {
@@ -77,7 +77,7 @@ returns-clause-kept g c = λ past is.
     let S = g.D.Disk.may_have_left in
     let M = g.D.Disk.moment in
     let i = c.self.inside in
-    let b : BookOf g.row.D.Denot = book_of i.host i.opened i.start i.log i.journal in
+    let b : BookOf g.row.D.Denot = book_of i.host i.opened i.start i.log i.claims i.journal in
     let j = c.settle.new.self in
     let e = c.in_ok-settle.ensures in
     settled T L S M laws.only_now past b j (subst (IsBook T L S M past) (sym c.self.view_is) is) e.next (inl e.settled) e.elapsed
@@ -91,7 +91,7 @@ returns-clause-any_moment g c = λ told past is.
     let S = g.D.Disk.may_have_left in
     let M = g.D.Disk.moment in
     let i = c.self.inside in
-    let b : BookOf g.row.D.Denot = book_of i.host i.opened i.start i.log i.journal in
+    let b : BookOf g.row.D.Denot = book_of i.host i.opened i.start i.log i.claims i.journal in
     let j = c.settle.new.self in
     let e = c.in_ok-settle.ensures in
     subst (λ (x : BookOf g.row.D.Denot). LeavesOnly M S x.journal.disk j.disk (IsAllOrDoubted past x)) c.self.view_is
