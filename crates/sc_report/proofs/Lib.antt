@@ -1,3 +1,4 @@
 pub mod EntryLemmas
 pub mod OutletLemmas
 pub mod SessionLemmas
+pub mod TotalLemmas

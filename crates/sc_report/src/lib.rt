@@ -1,4 +1,4 @@
-//! The report of a run, written piece by piece to a sink.
+//! The report of a run, and the summary of one of a drawn script, written piece by piece to a sink.
 #![tactic(auto)]
 
 mod end;
@@ -9,7 +9,10 @@ mod piece;
 mod replies;
 mod report;
 mod sessions;
+mod summary;
+mod totals;
 mod values;
 
 pub use end::End;
 pub use report::{write_fault, write_report};
+pub use summary::write_summary;

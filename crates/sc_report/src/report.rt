@@ -5,7 +5,7 @@ ghost use Rattle.sc_dev.specs.Transfer.{AppendsPart};
 ghost use Rattle.sc_report.specs.Outlets.{Writes};
 ghost use Rattle.sc_report.specs.Entries.{fault_text};
 ghost use Rattle.sc_report.specs.Lines.{line};
-ghost use Rattle.sc_report.specs.Report.{report};
+ghost use Rattle.sc_report.specs.Report.{end_word, report};
 
 use crate::end::End;
 use crate::entries::put_entries;
@@ -95,6 +95,13 @@ fn put_report<D, K: Sink>(out: &mut Outlet<'_, K>, closed: &Closed<Compiled, D>,
     out.counted_line(b"sessions ", closed.host.count());
     put_sessions(out, &closed.host);
     put_clock(out, &closed.host);
+    put_end(out, end);
+}
+
+/// The line of how a run ended.
+pub(crate) fn put_end<K: Sink>(out: &mut Outlet<'_, K>, end: End)
+    ensures { Writes K.taken K.faults out.old out.new (line (codes "end " ++ end_word end)) }
+{
     out.texts(&[b"end ", end.word()]);
     out.end_line();
 }
