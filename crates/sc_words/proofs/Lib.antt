@@ -1,0 +1,3 @@
+mod NumberLemmas
+mod TableLemmas
+pub mod Taken
