@@ -1,0 +1,3 @@
+pub mod ServingLemmas
+mod ClientLemmas
+mod PoolLemmas

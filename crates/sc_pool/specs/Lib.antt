@@ -1,0 +1,5 @@
+pub mod Serving
+pub mod Sharing
+pub mod Clients
+pub mod Pools
+pub mod Keeping

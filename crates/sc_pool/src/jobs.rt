@@ -1,0 +1,223 @@
+ghost use Rattle.std.specs.Prelude.{◌≡◌, ◌-◌, ◌≤◌, ◌<◌, ◌^◌, false, List, Some, IfOk, length};
+ghost use Rattle.sc_pool.specs.Keeping.{StartsAt, clients_from};
+ghost use Rattle.sc_pool.specs.Pools.{HaveNoStep, Ran, planned};
+ghost use Rattle.sc_core.specs.Accepted.{accepted_steps};
+ghost use Rattle.sc_types.specs.declared.command.Command.{Command};
+
+use crate::client::{Client, CommandList};
+use crate::locked::{Locked, Look, Plan, Round};
+use crate::shared_host::SharedHost;
+use sc_base::NoMemory;
+use sc_book::CallFault;
+use sc_dev::Gate;
+use sc_types::{Command, Sequence};
+use std::alloc::Global;
+use std::marker::Brand;
+use std::sync::{Mutex, Wait};
+use std::thread;
+use std::thread::Threads;
+
+/// How often in a row a worker looks for a session to step and finds none, before it ends.
+const IDLE_LOOKS: u32 = 1_000;
+
+/// What a thread does.
+#[derive(Clone, Copy, Debug, PartialEq, Eq)]
+enum Job {
+    /// Makes the commands of the client at a place.
+    Client(usize),
+    Worker,
+}
+
+/// A job for each client, and one for each worker.
+fn jobs_of(alloc: Global, clients: usize, workers: u32) -> Result<Vec<Job>, NoMemory> {
+    let mut jobs = Vec::new(alloc);
+    for place in 0..clients {
+        jobs.push(Job::Client(place))?;
+    }
+    for _worker in 0..workers {
+        jobs.push(Job::Worker)?;
+    }
+    Ok(jobs)
+}
+
+/// A client that has all of this list still to make.
+fn client_of(number: u32, commands: Sequence<Command>) -> Client
+    ensures { result ≡ record { number = number; left = commands; met = false } }
+{
+    Client {
+        number,
+        left: CommandList::new(commands),
+        met: false,
+    }
+}
+
+/// The clients of these lists, numbered from 1 on.
+fn clients_of(
+    alloc: Global,
+    scripts: Sequence<Sequence<Command>>,
+) -> Result<Sequence<Client>, NoMemory>
+    requires few { length scripts < 2 ^ 32 - 1 }
+    ensures { IfOk result (λ clients. clients ≡ clients_from 1 scripts) }
+{
+    let mut clients = Sequence::new(alloc);
+    for commands in scripts.into_vec() {
+        let number = clients.len() as u32 + 1;
+        clients.push(client_of(number, commands))?;
+    }
+    Ok(clients)
+}
+
+/// Makes the commands of a client one after another, to the end of its list or to a fault.
+fn serve<H: SharedHost + Drop, J: Plan, R: Wait>(
+    rt: &R,
+    alloc: Global,
+    locked: &Mutex<Locked<H, J>>,
+    place: usize,
+) {
+    for _ in rt.forever() {
+        match locked.lock(rt).next(alloc, place) {
+            Round::Made => {}
+            Round::Nothing | Round::Failed => return,
+        }
+    }
+}
+
+/// One look of a worker: it claims a session, computes its turn outside the lock, and commits it.
+fn look<H: SharedHost + Drop, J: Plan, R: Wait, G: Gate>(
+    rt: &R,
+    alloc: Global,
+    engine: &H::Engine,
+    gate: &G,
+    locked: &Mutex<Locked<H, J>>,
+) -> Round {
+    let look = locked.lock(rt).claim(alloc);
+    match look {
+        Look::Claimed(ticket) => {
+            gate.inside(H::place_of(&ticket));
+            let turned = H::work(alloc, engine, &ticket);
+            locked.lock(rt).commit(alloc, ticket, turned)
+        }
+        Look::Nothing => Round::Nothing,
+        Look::Failed => Round::Failed,
+    }
+}
+
+/// Steps sessions until it finds none to step for a while, or meets a fault.
+fn help<H: SharedHost + Drop, J: Plan, R: Wait, G: Gate>(
+    rt: &R,
+    alloc: Global,
+    engine: &H::Engine,
+    gate: &G,
+    locked: &Mutex<Locked<H, J>>,
+) {
+    let mut idle = 0u32;
+    for _ in rt.forever() {
+        match look(rt, alloc, engine, gate, locked) {
+            Round::Made => idle = 0,
+            Round::Nothing if idle < IDLE_LOOKS => idle += 1,
+            Round::Nothing | Round::Failed => return,
+        }
+    }
+}
+
+/// What the job at a place does.
+fn work<H: SharedHost + Drop, J: Plan, R: Wait, G: Gate>(
+    rt: &R,
+    alloc: Global,
+    engine: &H::Engine,
+    gate: &G,
+    locked: &Mutex<Locked<H, J>>,
+    job: Job,
+) {
+    match job {
+        Job::Client(place) => serve(rt, alloc, locked, place),
+        Job::Worker => help(rt, alloc, engine, gate, locked),
+    }
+}
+
+/// Runs the jobs, and then makes what is left of them.
+fn run_locked<
+    H: SharedHost + Drop + Send,
+    J: Plan + Send + Sync,
+    R: Threads + Wait + Sync,
+    G: Gate,
+>(
+    rt: &R,
+    alloc: Global,
+    engine: &H::Engine,
+    gate: &G,
+    mut jobs: Vec<Job>,
+    locked: Locked<H, J>,
+) -> (H, Option<CallFault>)
+    ensures { Ran J.plan (H.seen result.0) result.1 }
+{
+    let threads = jobs.len().max(1);
+    let shared = Mutex::new(locked);
+    let book = &shared;
+    thread::for_each_mut(
+        rt,
+        jobs.as_mut_slice(),
+        threads,
+        &|_, job: &mut Job| { work(rt, alloc, engine, gate, book, *job) },
+    );
+    let mut locked = shared.into_inner();
+    locked.finish_clients(alloc);
+    locked.finish_steps(alloc);
+    locked.into_parts()
+}
+
+/// The same, under a plan that the caller picks.
+fn run_planned<
+    H: SharedHost + Drop + Send,
+    J: Plan + Send + Sync,
+    R: Threads + Wait + Sync,
+    G: Gate,
+>(
+    rt: &R,
+    alloc: Global,
+    host: H,
+    engine: &H::Engine,
+    scripts: Sequence<Sequence<Command>>,
+    workers: u32,
+    budget: u64,
+    gate: &G,
+) -> (H, Option<CallFault>)
+    requires few { length scripts < 2 ^ 32 - 1 }
+    requires no_step { HaveNoStep scripts }
+    requires scripts { scripts ≡ J.plan.scripts }
+    requires start { StartsAt J.plan.start (H.seen host) }
+    requires budget { budget ≡ J.plan.budget }
+    requires within { accepted_steps (H.seen host).entries ≤ budget }
+    ensures { Ran J.plan (H.seen result.0) result.1 }
+{
+    let Ok(jobs) = jobs_of(alloc, scripts.len(), workers) else {
+        return (host, Some(CallFault::NoMemory));
+    };
+    match clients_of(alloc, scripts) {
+        Ok(clients) => {
+            let locked: Locked<H, J> = Locked::new(host, clients, budget);
+            run_locked(rt, alloc, engine, gate, jobs, locked)
+        }
+        Err(NoMemory) => (host, Some(CallFault::NoMemory)),
+    }
+}
+
+/// Makes the commands of all clients, each in the order of its list, and lets workers step what is ready, with a thread for
+/// each client and each worker. Answers the host, and the worst fault that a job met.
+pub fn run<H: SharedHost + Drop + Send, R: Threads + Wait + Sync, G: Gate>(
+    rt: &R,
+    alloc: Global,
+    host: H,
+    engine: &H::Engine,
+    scripts: Sequence<Sequence<Command>>,
+    workers: u32,
+    budget: u64,
+    gate: &G,
+) -> (H, Option<CallFault>)
+    requires few { length scripts < 2 ^ 32 - 1 }
+    requires no_step { HaveNoStep scripts }
+    requires within { accepted_steps (H.seen host).entries ≤ budget }
+    ensures { Ran (planned scripts budget (H.seen host)) (H.seen result.0) result.1 }
+{
+    run_planned::<H, Brand, R, G>(rt, alloc, host, engine, scripts, workers, budget, gate)
+}
