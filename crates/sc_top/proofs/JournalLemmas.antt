@@ -29,7 +29,7 @@ use Rattle.sc_types.specs.declared.host.HostImage.{HostImage}
 use Rattle.sc_top.specs.Journals.{DiskKnown, HasNoRoomFor, IsDoubtful, IsEndOf, IsStored, IsWithNext, IsWithOrWithout, Opening, count_after, disk_known, host_after}
 use Rattle.sc_top.specs.Journals as journals
 use Rattle.sc_top.specs.Journals.{FailsToOpen}
-use Rattle.sc_top.specs.Promise.{Ends, LeftBy, Runs, Shows, full, failed, left_by, quiet, ran, shown, spent}
+use Rattle.sc_top.specs.Promise.{Account, Ends, LeftBy, Runs, Shows, full, failed, left_by, quiet, ran, shown, spent}
 use Rattle.sc_report.specs.Report.{report}
 use Rattle.sc_top.specs.Sayings.{IsTold, SaysFault, bad, damaged, disk}
 use Rattle.sc_top.specs.declared.status.Status.{Status}
@@ -315,17 +315,17 @@ module _ {D : Type 0} (tells : Type 0) (reads : D → DiskOf) (leaves : D → Di
 
     -- what is said of it
     pub runs_of : (stood : tells → (n : ℕ) (g : HostImage) → StandsFor (reads start) n g → (old.opened ≡ n) × (old.host ≡ g))
-        → (fault : Option CallFault) → HowEnded tells leaves left moment faults first run (in_turn s) fault
+        → (account : Account) (fault : Option CallFault) → HowEnded tells leaves left moment faults first run (in_turn s) fault
         → (n : ℕ) (g : HostImage) (es : List Entry) → run.book.opened ≡ n → run.book.host ≡ g → run.book.history ≡ es
-        → (status : Status) (bytes : List ℕ) → IsTold fault n g es status bytes → Runs K s budget status bytes
-    runs_of stood fault how n g es is_opened is_host is_history status bytes t =
-        subst (λ (x : Status). Runs K s budget x bytes) (sym t.is_status) (ran t.end bytes (record {
+        → (status : Status) (bytes : List ℕ) → IsTold account fault n g es status bytes → Runs K account s budget status bytes
+    runs_of stood account fault how n g es is_opened is_host is_history status bytes t =
+        subst (λ (x : Status). Runs K account s budget x bytes) (sym t.is_status) (ran t.end bytes (record {
           opened = opened_by stood;
           history = run.book.history;
           ends = ends_of fault how t.end (ap (λ (x : HostImage). end_by fault (is_some (ready x))) is_host ∙ t.ends);
-          is = t.is_bytes ∙ ap (λ (x : ℕ). report x g es t.end) (sym is_opened ∙ is_last.opened)
-              ∙ ap (λ (x : HostImage). report (length o.past) x es t.end) (sym is_host ∙ is_last.host)
-              ∙ ap (λ (x : List Entry). report (length o.past) (host_after o.past run.book.history) x t.end) (sym is_history);
+          is = t.is_bytes ∙ ap (λ (x : ℕ). account x g es t.end) (sym is_opened ∙ is_last.opened)
+              ∙ ap (λ (x : HostImage). account (length o.past) x es t.end) (sym is_host ∙ is_last.host)
+              ∙ ap (λ (x : List Entry). account (length o.past) (host_after o.past run.book.history) x t.end) (sym is_history);
         }))
 
     pub left_of : (tells → (n : ℕ) (g : HostImage) → StandsFor (reads start) n g → (old.opened ≡ n) × (old.host ≡ g))

@@ -1,4 +1,5 @@
 pub mod CrossingLemmas
+pub mod DrawnLemmas
 pub mod FrontLemmas
 pub mod JournalLemmas
 pub mod Promise

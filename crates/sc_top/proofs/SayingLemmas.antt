@@ -3,6 +3,9 @@ use Rattle.std.proofs.Common.{◌≡◌, ℕ, Option, Some, List, Result, Ok, Er
 use Rattle.sc_law.specs.LegalCharts.{legal_chart_of}
 use Rattle.sc_types.specs.declared.chart.Chart.{Chart}
 use Rattle.sc_types.specs.declared.chart.ChartFault.{ChartFault}
+use Rattle.sc_report.specs.Report.{report}
+use Rattle.sc_report.specs.Summary.{summary}
+use Rattle.sc_script.specs.Generated.{generated}
 use Rattle.sc_script.specs.Scripts.{Spelled, script_of}
 use Rattle.sc_script.specs.declared.script.Script.{Script}
 use Rattle.sc_top.specs.Promise.{Checks, IsRead, Known, Leaves, LeavesScript, LeftBy, Runs, Says, SaysOfScript, Shows, faulty, legal, initialised, checked, left_run, spelled}
@@ -12,23 +15,36 @@ use Rattle.sc_top.specs.Sayings.{check_status, check_text, status_of, text_of}
 use Rattle.sc_top.specs.declared.saying.Saying.{Saying}
 use Rattle.sc_top.specs.declared.status.Status.{Status}
 use Rattle.sc_top.specs.declared.status.Status.TheVariants as done
-use Rattle.sc_top.specs.declared.words.Asked.{Asked}
-use Rattle.sc_top.specs.declared.words.Asked.TheVariants.{Check, Run, Show}
+use Rattle.sc_words.specs.declared.asked.Asked.{Asked}
+use Rattle.sc_words.specs.declared.asked.Asked.TheVariants.{Check, Gen, Run, Show}
+use Rattle.sc_words.specs.declared.asked.TheConstants.{RUN_BUDGET}
 
 -- what is said of a script that was read is what the promise says of a run
 pub run_says : {E : Type 0} (budget : ℕ) (k : Known) (text : List ℕ) (r : Result Saying E)
-    → IsRead (Some (Run budget)) k.source text
+    → IsRead (Some (Run 0 budget)) k.source text
     → IfOk r (λ s. SaysOfScript k.disk budget (script_of text) (status_of s) (text_of s))
-    → IfOk r (λ s. Says (Some (Run budget)) k (status_of s) (text_of s))
+    → IfOk r (λ s. Says (Some (Run 0 budget)) k (status_of s) (text_of s))
 run_says budget k text (Ok s) told says = promise.run budget text (status_of s) (text_of s) refl told says
 run_says budget k text (Err e) told says = tt
 
 -- and what is left where memory was wanting
 pub run_leaves : {E : Type 0} (budget : ℕ) (k : Known) (text : List ℕ) (r : Result Saying E)
-    → IsRead (Some (Run budget)) k.source text → OnErr r (LeavesScript k.disk budget (script_of text))
-    → OnErr r (Leaves (Some (Run budget)) k)
+    → IsRead (Some (Run 0 budget)) k.source text → OnErr r (LeavesScript k.disk budget (script_of text))
+    → OnErr r (Leaves (Some (Run 0 budget)) k)
 run_leaves budget k text (Ok s) told leaves = tt
 run_leaves budget k text (Err e) told leaves = promise.left_script budget text refl told leaves
+
+-- of a script that was drawn
+pub drawn_says : {E : Type 0} (number size : ℕ) (k : Known) (r : Result Saying E)
+    → IfOk r (λ s. Runs k.disk (λ opened. summary number size) (generated number size) RUN_BUDGET (status_of s) (text_of s))
+    → IfOk r (λ s. Says (Some (Gen number size)) k (status_of s) (text_of s))
+drawn_says number size k (Ok s) runs = promise.drawn number size (status_of s) (text_of s) refl runs
+drawn_says number size k (Err e) runs = tt
+
+pub drawn_leaves : {E : Type 0} (number size : ℕ) (k : Known) (r : Result Saying E)
+    → OnErr r (LeftBy k.disk (generated number size) RUN_BUDGET) → OnErr r (Leaves (Some (Gen number size)) k)
+drawn_leaves number size k (Ok s) left = tt
+drawn_leaves number size k (Err e) left = promise.left_drawn number size refl left
 
 -- what is shown
 pub show_says : {E : Type 0} (k : Known) (r : Result Saying E) → IfOk r (λ s. Shows k.disk (status_of s) (text_of s))
@@ -76,7 +92,7 @@ told_text asked source a b e = subst (IsRead asked source) e
 -- of a text that spells a script
 
 pub script_says : {E : Type 0} (k : DiskKnown) (budget : ℕ) (x : Spelled) (script : Script) (r : Result Saying E)
-    → x ≡ Ok script → IfOk r (λ s. Runs k script budget (status_of s) (text_of s))
+    → x ≡ Ok script → IfOk r (λ s. Runs k report script budget (status_of s) (text_of s))
     → IfOk r (λ s. SaysOfScript k budget x (status_of s) (text_of s))
 script_says k budget x script (Ok s) is runs =
     subst (λ y. SaysOfScript k budget y (status_of s) (text_of s)) (sym is) (spelled script (status_of s) (text_of s) runs)

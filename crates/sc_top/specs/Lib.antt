@@ -1,4 +1,4 @@
-pub mod Asked
+pub mod Devices
 pub mod Journals
 pub mod Promise
 pub mod Run

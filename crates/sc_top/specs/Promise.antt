@@ -5,17 +5,20 @@ use Rattle.sc_types.specs.declared.chart.Chart.{Chart}
 use Rattle.sc_types.specs.declared.chart.ChartFault.{ChartFault}
 use Rattle.sc_types.specs.declared.command.Command.{Command}
 use Rattle.sc_types.specs.declared.history.Entry.{Entry}
+use Rattle.sc_types.specs.declared.host.HostImage.{HostImage}
 use Rattle.sc_law.specs.LegalCharts.{legal_chart_of}
+use Rattle.sc_script.specs.Generated.{generated}
 use Rattle.sc_script.specs.Scripts.{Spelled, script_of}
 use Rattle.sc_script.specs.declared.fault.ScriptFault.{ScriptFault}
 use Rattle.sc_script.specs.declared.script.Script.{Script}
 use Rattle.sc_book.specs.Books.{opening}
 use Rattle.sc_core.specs.Cues.{ready}
-use Rattle.sc_top.specs.Asked.{most_read}
+use Rattle.sc_top.specs.Devices.{most_read}
 use Rattle.sc_top.specs.Journals.{Creates, DiskKnown, FailsToOpen, HasNoRoomFor, IsDoubtful, IsStored, IsUnwritten, Opening, count_after, host_after}
 use Rattle.sc_report.specs.Lines.{line}
 use Rattle.sc_report.specs.Entries.{fault_text}
 use Rattle.sc_report.specs.Report.{report}
+use Rattle.sc_report.specs.Summary.{summary}
 use Rattle.sc_top.specs.ScriptFaults.{script_fault_text}
 use Rattle.sc_top.specs.Run.{ComesNext, IsHistoryOf, IsWholeHistoryOf}
 use Rattle.sc_top.specs.Statuses.{end_status}
@@ -23,8 +26,9 @@ use Rattle.sc_report.specs.declared.end.End.{End}
 use Rattle.sc_report.specs.declared.end.End.TheVariants as end
 use Rattle.sc_top.specs.declared.status.Status.{Status}
 use Rattle.sc_top.specs.declared.status.Status.TheVariants as status
-use Rattle.sc_top.specs.declared.words.Asked.{Asked}
-use Rattle.sc_top.specs.declared.words.Asked.TheVariants.{Init, Run, Show, Check}
+use Rattle.sc_words.specs.declared.asked.Asked.{Asked}
+use Rattle.sc_words.specs.declared.asked.Asked.TheVariants.{Init, Run, Show, Check, Gen}
+use Rattle.sc_words.specs.declared.asked.TheConstants.{RUN_BUDGET}
 
 -- How a run ended, and what the disk holds then. It came to its end, and no session is ready, or one is and the steps are
 -- used up; or the disk failed, and may have left the next command in doubt; or there is no room for the next command.
@@ -39,19 +43,26 @@ pub data Ends (k : DiskKnown) (past : List Command) (s : Script) (budget : ℕ) 
       → HasNoRoomFor k past history e
       → (k.told → IsStored k (count_after past history) (host_after past history)) → Ends k past s budget history end.Full
 
+-- what is written of a run, by how many commands the journal held at its opening, the host at the end, the history, and
+-- how it ended
+abbrev pub Account : Type 0
+Account = ℕ → HostImage → List Entry → End → List ℕ
+
 -- The bytes of a script's run are those of one history from the host that the journal held, with all that is promised
 -- of it.
-pub record Reports (k : DiskKnown) (script : Script) (budget : ℕ) (end : End) (bytes : List ℕ) : Type 0 where
+pub record Reports (k : DiskKnown) (account : Account) (script : Script) (budget : ℕ) (end : End) (bytes : List ℕ) :
+    Type 0 where
   pub opened : Opening k
   pub history : List Entry
   pub ends : Ends k opened.past script budget history end
-  pub is : bytes ≡ report (length opened.past) (host_after opened.past history) history end
+  pub is : bytes ≡ account (length opened.past) (host_after opened.past history) history end
 
 -- of a script: it was run on the journal's host, or there is none, and nothing was written
-pub data Runs (k : DiskKnown) (script : Script) (budget : ℕ) : Status → List ℕ → Type 0 where
+pub data Runs (k : DiskKnown) (account : Account) (script : Script) (budget : ℕ) : Status → List ℕ → Type 0 where
   not_run : (status : Status) (bytes : List ℕ) → IsUnwritten k → FailsToOpen k status bytes
-      → Runs k script budget status bytes
-  ran : (end : End) (bytes : List ℕ) → Reports k script budget end bytes → Runs k script budget (end_status end) bytes
+      → Runs k account script budget status bytes
+  ran : (end : End) (bytes : List ℕ) → Reports k account script budget end bytes
+      → Runs k account script budget (end_status end) bytes
 
 -- of `show`: the journal's host, or why there is none; nothing was written
 pub data Shows (k : DiskKnown) : Status → List ℕ → Type 0 where
@@ -77,7 +88,7 @@ IsRead asked source text = IfSome source (λ all. text ≡ take (most_read asked
 pub data SaysOfScript (k : DiskKnown) (budget : ℕ) : Spelled → Status → List ℕ → Type 0 where
   no_script : (fault : ScriptFault) → IsUnwritten k
       → SaysOfScript k budget (Err fault) status.BadScript (line (codes "script " ++ script_fault_text fault))
-  spelled : (script : Script) (status : Status) (bytes : List ℕ) → Runs k script budget status bytes
+  spelled : (script : Script) (status : Status) (bytes : List ℕ) → Runs k report script budget status bytes
       → SaysOfScript k budget (Ok script) status bytes
 
 -- of `check`: the text is a chart, or has this fault
@@ -93,12 +104,17 @@ pub data Says (asked : Option Asked) (k : Known) : Status → List ℕ → Type 
   other_words : asked ≡ None → Says asked k status.OtherWords (codes "words\n")
   initialised : (status : Status) (bytes : List ℕ) → asked ≡ Some Init → Creates k.disk status bytes
       → Says asked k status bytes
-  unread_script : (budget : ℕ) → asked ≡ Some (Run budget) → k.read_failed → IsUnwritten k.disk
+  not_built : (workers budget : ℕ) → asked ≡ Some (Run workers budget) → workers ≢ 0 → IsUnwritten k.disk
+      → Says asked k status.NotBuilt (codes "not-built\n")
+  unread_script : (budget : ℕ) → asked ≡ Some (Run 0 budget) → k.read_failed → IsUnwritten k.disk
       → Says asked k status.ReadFault (codes "read\n")
-  run : (budget : ℕ) (text : List ℕ) (status : Status) (bytes : List ℕ) → asked ≡ Some (Run budget)
+  run : (budget : ℕ) (text : List ℕ) (status : Status) (bytes : List ℕ) → asked ≡ Some (Run 0 budget)
       → IsRead asked k.source text → SaysOfScript k.disk budget (script_of text) status bytes → Says asked k status bytes
   tells : (status : Status) (bytes : List ℕ) → asked ≡ Some Show → Shows k.disk status bytes → Says asked k status bytes
   checked : (status : Status) (bytes : List ℕ) → asked ≡ Some Check → Checks k.source k.read_failed status bytes
+      → Says asked k status bytes
+  drawn : (number size : ℕ) (status : Status) (bytes : List ℕ) → asked ≡ Some (Gen number size)
+      → Runs k.disk (λ opened. summary number size) (generated number size) RUN_BUDGET status bytes
       → Says asked k status bytes
 
 -- these bytes are those of some status other than the two that say nothing of their own
@@ -119,5 +135,7 @@ pub data LeavesScript (k : DiskKnown) (budget : ℕ) : Spelled → Type 0 where
 -- where memory was wanting
 pub data Leaves (asked : Option Asked) (k : Known) : Type 0 where
   unwritten : IsUnwritten k.disk → Leaves asked k
-  left_script : (budget : ℕ) (text : List ℕ) → asked ≡ Some (Run budget) → IsRead asked k.source text
+  left_script : (budget : ℕ) (text : List ℕ) → asked ≡ Some (Run 0 budget) → IsRead asked k.source text
       → LeavesScript k.disk budget (script_of text) → Leaves asked k
+  left_drawn : (number size : ℕ) → asked ≡ Some (Gen number size)
+      → LeftBy k.disk (generated number size) RUN_BUDGET → Leaves asked k

@@ -1,18 +1,17 @@
 -- The run of a script on one thread, and whose commands a history has. This host's own rule.
-use Rattle.std.specs.Prelude.{ℕ, ◌+◌, ◌≡◌, ◌≢◌, ◌≤◌, ◌==◌, ◌&&◌, Bool, true, false, not, Option, Some, None, IsTrue, List, [], ◌∷◌, ◌++◌, map, filter, count_by, slice_get, unwrap_or}
+use Rattle.std.specs.Prelude.{ℕ, ◌+◌, ◌≡◌, ◌≢◌, ◌≤◌, ◌==◌, ◌&&◌, Bool, true, false, not, Option, Some, None, IsTrue, List, [], ◌∷◌, ◌++◌, map, slice_get, unwrap_or}
 use Rattle.std.specs.List.{list_all, list_any}
 use Rattle.std.proofs.Common.{zero, suc}
 use Rattle.sc_types.specs.declared.command.Command.{Command}
 use Rattle.sc_types.specs.declared.command.Command.TheVariants.{Step}
-use Rattle.sc_types.specs.declared.command.Reply.{Reply}
-use Rattle.sc_types.specs.declared.command.Reply.TheVariants.{Stepped}
 use Rattle.sc_types.specs.declared.history.Entry.{Entry}
 use Rattle.sc_types.specs.declared.history.Who.{Who}
 use Rattle.sc_types.specs.declared.history.Who.TheVariants.{Client, Worker}
 use Rattle.sc_types.specs.declared.host.HostImage.{HostImage}
 use Rattle.sc_script.specs.declared.script.Script.{Script}
+use Rattle.sc_pool.specs.Serving.{IsPrefix, commands_of, is_of, is_served}
 use Rattle.sc_book.specs.Books.{opening}
-use Rattle.sc_core.specs.Accepted.{is_accepted}
+use Rattle.sc_core.specs.Accepted.{accepted_steps, is_accepted}
 use Rattle.sc_core.specs.Commands.{answer}
 use Rattle.sc_core.specs.Cues.{ready}
 use Rattle.sc_core.specs.Histories.{IsLegal, IsAtMostOnce, Tells, replay}
@@ -75,32 +74,10 @@ abbrev pub IsRun : HostImage → List Made → ℕ → List Entry → Type 0
 IsRun g cs budget [] = next g cs budget ≡ over
 IsRun g cs budget (e ∷ es) = Continues (next g cs budget) g cs budget e (λ g' cs' budget'. IsRun g' cs' budget' es)
 
--- whose entries they are
-
-abbrev pub is_of : Who → Who → Bool
-is_of Worker Worker = true
-is_of (Client m) (Client n) = m == n
-is_of who other = false
-
-abbrev pub commands_of : Who → List Entry → List Command
-commands_of who history = map (λ (e : Entry). e.command) (filter (λ (e : Entry). is_of who e.who) history)
-
 -- the commands that a script has for a client
 abbrev pub list_of : Script → ℕ → List Command
 list_of s zero = s.setup
 list_of s (suc n) = unwrap_or (slice_get s.clients n) []
-
-abbrev pub is_accepted_step : Command → Reply → Bool
-is_accepted_step (Step session) (Stepped cue) = true
-is_accepted_step c reply = false
-
--- an entry is of a client, or it is an accepted step of a worker
-abbrev pub served_by : Who → Command → Reply → Bool
-served_by Worker c reply = is_accepted_step c reply
-served_by (Client n) c reply = true
-
-abbrev pub is_served : Entry → Bool
-is_served e = served_by e.who e.command e.reply
 
 abbrev pub is_setup : Entry → Bool
 is_setup e = is_of (Client 0) e.who
@@ -124,20 +101,12 @@ pub record Serves (s : Script) (history : List Entry) : Type 0 where
   pub setup : IsTrue (is_setup_first history)
   pub others : IsTrue (list_all is_served history)
 
--- the items of the first list, and others behind them
-pub record IsPrefix {A : Type 0} (xs ys : List A) : Type 0 where
-  pub rest : List A
-  pub whole : ys ≡ xs ++ rest
-
 -- The same as far as it goes: the first commands of each client, and no other client makes one unless the set-up is whole.
 pub record ServesInPart (s : Script) (history : List Entry) : Type 0 where
   pub lists : (n : ℕ) → IsPrefix (commands_of (Client n) history) (list_of s n)
   pub setup_whole : IsTrue (list_any is_of_later history) → commands_of (Client 0) history ≡ s.setup
   pub setup : IsTrue (is_setup_first history)
   pub others : IsTrue (list_all is_served history)
-
-abbrev pub accepted_steps : List Entry → ℕ
-accepted_steps history = count_by (λ (e : Entry). is_accepted_step e.command e.reply) history
 
 -- the first entries of the run of the commands
 pub record IsFront (g : HostImage) (cs : List Made) (budget : ℕ) (history : List Entry) : Type 0 where

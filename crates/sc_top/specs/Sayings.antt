@@ -13,9 +13,13 @@ use Rattle.sc_core.specs.Cues.{ready}
 use Rattle.sc_report.specs.Lines.{line}
 use Rattle.sc_report.specs.Entries.{fault_text}
 use Rattle.sc_report.specs.Report.{report}
+use Rattle.sc_report.specs.Summary.{summary}
+use Rattle.sc_top.specs.Promise.{Account}
 use Rattle.sc_top.specs.Statuses.{end_status}
 use Rattle.sc_report.specs.declared.end.End.{End}
 use Rattle.sc_report.specs.declared.end.End.TheVariants as end
+use Rattle.sc_top.specs.declared.saying.Form.{Form}
+use Rattle.sc_top.specs.declared.saying.Form.TheVariants as form
 use Rattle.sc_top.specs.declared.saying.Saying.{Saying}
 use Rattle.sc_top.specs.declared.saying.Saying.TheVariants as saying
 use Rattle.sc_top.specs.declared.status.Status.{Status}
@@ -24,6 +28,7 @@ use Rattle.sc_top.specs.declared.status.Status.TheVariants as status
 -- the status that goes with a saying
 abbrev pub status_of : Saying → Status
 status_of saying.OtherWords = status.OtherWords
+status_of saying.NotBuilt = status.NotBuilt
 status_of saying.ReadFault = status.ReadFault
 status_of saying.DiskFault = status.DiskFault
 status_of saying.Created = status.Done
@@ -32,11 +37,17 @@ status_of (saying.BadScript text) = status.BadScript
 status_of (saying.BadJournal text) = status.BadJournal
 status_of (saying.Legal text) = status.Done
 status_of (saying.Faulty fault) = status.Faulty
-status_of (saying.Report end closed) = end_status end
+status_of (saying.Run form end closed) = end_status end
+
+-- what is written of a run
+abbrev pub account : Form → Account
+account form.Report = report
+account (form.Summary number size) = λ opened. summary number size
 
 -- the bytes that go with a saying
 abbrev pub text_of : Saying → List ℕ
 text_of saying.OtherWords = codes "words\n"
+text_of saying.NotBuilt = codes "not-built\n"
 text_of saying.ReadFault = codes "read\n"
 text_of saying.DiskFault = codes "disk\n"
 text_of saying.Created = codes "created\n"
@@ -45,7 +56,7 @@ text_of (saying.BadScript text) = text
 text_of (saying.BadJournal text) = text
 text_of (saying.Legal text) = text
 text_of (saying.Faulty fault) = line (codes "chart " ++ fault_text fault)
-text_of (saying.Report end closed) = report closed.opened closed.host.image closed.history.entries end
+text_of (saying.Run form end closed) = account form closed.opened closed.host.image closed.history.entries end
 
 -- of a text that should spell a chart
 
@@ -69,13 +80,13 @@ end_by (Some call.Disk) is_ready = Some end.Disk
 end_by (Some call.Full) is_ready = Some end.Full
 end_by (Some call.NoMemory) is_ready = None
 
--- these are the status and the bytes of its report
-pub record IsTold (fault : Option CallFault) (opened : ℕ) (host : HostImage) (history : List Entry) (status : Status)
-    (bytes : List ℕ) : Type 0 where
+-- these are the status and the bytes of its account
+pub record IsTold (tells : Account) (fault : Option CallFault) (opened : ℕ) (host : HostImage) (history : List Entry)
+    (status : Status) (bytes : List ℕ) : Type 0 where
   pub end : End
   pub ends : end_by fault (is_some (ready host)) ≡ Some end
   pub is_status : status ≡ end_status end
-  pub is_bytes : bytes ≡ report opened host history end
+  pub is_bytes : bytes ≡ tells opened host history end
 
 -- of a journal that was not opened
 pub data SaysFault : OpenFault → Status → List ℕ → Type 0 where

@@ -3,11 +3,11 @@ ghost use Rattle.std.specs.Result.{result_ok};
 ghost use Rattle.sc_script.specs.Steps.{HasNoStep};
 ghost use Rattle.sc_top.specs.Journals.{Creates, IsUnwritten, disk_known};
 ghost use Rattle.sc_top.specs.Promise.{LeftBy, Runs, Shows};
-ghost use Rattle.sc_top.specs.Sayings.{IsTold, SaysFault, end_by, status_of, text_of};
+ghost use Rattle.sc_top.specs.Sayings.{IsTold, SaysFault, account, end_by, status_of, text_of};
 
 use crate::lines::counted_line;
 use crate::run::{Ended, run_script};
-use crate::saying::Saying;
+use crate::saying::{Form, Saying};
 use sc_base::NoMemory;
 use sc_book::{Book, CallFault, OpenFault};
 use sc_core::{Closed, History, HostState};
@@ -43,7 +43,7 @@ pub(crate) fn show<D: Disk>(alloc: Global, disk: &mut D) -> Result<Saying, NoMem
             let mut closed = book.finish();
             let left = left_by(alloc, &mut closed);
             into_disk(closed);
-            Ok(Saying::Report(End::Shown, left))
+            Ok(Saying::Run(Form::Report, End::Shown, left))
         }
         Err(failed) => {
             let fault = failed.fault;
@@ -58,17 +58,18 @@ pub(crate) fn run<D: Disk>(
     alloc: Global,
     budget: u64,
     script: Script,
+    form: Form,
     disk: &mut D,
 ) -> Result<Saying, NoMemory>
     requires steps { HasNoStep script }
-    ensures ok { IfOk result (λ s. Runs (disk_known D.tells D.reads D.may_leave D.faults disk.old disk.new) script
-        budget (status_of s) (text_of s)) }
+    ensures ok { IfOk result (λ s. Runs (disk_known D.tells D.reads D.may_leave D.faults disk.old disk.new)
+        (account form) script budget (status_of s) (text_of s)) }
     ensures err { OnErr result (LeftBy (disk_known D.tells D.reads D.may_leave D.faults disk.old disk.new) script budget) }
 {
     match Book::open(alloc, &Compiled, disk) {
         Ok(book) => {
             let mut ended = run_script(alloc, book, script, budget);
-            let said = tell(alloc, &mut ended);
+            let said = tell(alloc, form, &mut ended);
             into_disk(ended.closed);
             said
         }
@@ -103,14 +104,18 @@ fn left_by<E: Engine, D>(alloc: Global, closed: &mut Closed<E, D>) -> Closed<E, 
 }
 
 /// What there is to say of a run that has ended. Of what it left only the disk is still there then.
-fn tell<D: Disk>(alloc: Global, ended: &mut Ended<Compiled, D>) -> Result<Saying, NoMemory>
-    ensures told { IfOk result (λ s. IsTold ended.old.fault ended.old.closed.opened ended.old.closed.host.image
+fn tell<D: Disk>(
+    alloc: Global,
+    form: Form,
+    ended: &mut Ended<Compiled, D>,
+) -> Result<Saying, NoMemory>
+    ensures told { IfOk result (λ s. IsTold (account form) ended.old.fault ended.old.closed.opened ended.old.closed.host.image
         ended.old.closed.history.entries (status_of s) (text_of s)) }
     ensures disk { ended.new.closed.disk ≡ ended.old.closed.disk }
 {
     let is_ready = ended.closed.host.ready_session().is_some();
     let end = end_of(ended.fault, is_ready)?;
-    Ok(Saying::Report(end, left_by(alloc, &mut ended.closed)))
+    Ok(Saying::Run(form, end, left_by(alloc, &mut ended.closed)))
 }
 
 /// How a run ended.

@@ -1,5 +1,5 @@
-//! The host as a program: makes a journal; runs a script on the host that a journal holds, and writes the report; tells
-//! that host; or reads a chart, and says whether it is one.
+//! The host as a program: makes a journal; runs a script on the host that a journal holds, and writes the report, or runs
+//! one that is drawn from a number, and writes its summary; tells that host; or reads a chart, and says whether it is one.
 #![tactic(auto)]
 
 mod check;
@@ -9,8 +9,6 @@ mod program;
 mod run;
 mod saying;
 mod status;
-mod words;
 
 pub use program::top;
 pub use status::Status;
-pub use words::{Asked, STEP_BUDGET, STEP_LIMIT};

@@ -2,36 +2,41 @@ ghost use Rattle.std.specs.Prelude.{◌≡◌, ◌≢◌, ℕ, false, map, strin
 ghost use Rattle.std.specs.Io.KnownBytes.{Appends, Keeps};
 ghost use Rattle.sc_dev.specs.Causes.{Rose};
 ghost use Rattle.sc_dev.specs.Transfer.{AppendsPart, ConsumesUpTo};
+ghost use Rattle.sc_report.specs.Summary.{summary};
+ghost use Rattle.sc_script.specs.Generated.{generated};
 ghost use Rattle.sc_script.specs.Scripts.{script_of};
-ghost use Rattle.sc_top.specs.Asked.{asked, most_read, uses_journal};
+ghost use Rattle.sc_words.specs.Asked.{asked};
+ghost use Rattle.sc_words.specs.declared.asked.TheConstants.{RUN_BUDGET};
+ghost use Rattle.sc_top.specs.Devices.{most_read, uses_journal};
 ghost use Rattle.sc_top.specs.Journals.{disk_known};
-ghost use Rattle.sc_top.specs.Promise.{Checks, Leaves, LeavesScript, Output, Says, SaysOfScript, known};
+ghost use Rattle.sc_top.specs.Promise.{Checks, Leaves, LeavesScript, LeftBy, Output, Runs, Says, SaysOfScript, known};
 ghost use Rattle.sc_top.specs.Sayings.{status_of, text_of};
 ghost use Rattle.sc_top.specs.Statuses.{code};
 
 use crate::check::check_text;
 use crate::journal;
 use crate::lines::script_fault_line;
-use crate::saying::Saying;
+use crate::saying::{Form, Saying};
 use crate::status::Status;
-use crate::words::{Asked, read_words};
 use sc_base::{Failure, NoMemory};
 use sc_dev::{Disk, Sink, Source, read_up_to};
-use sc_script::read_script;
+use sc_script::{generate, read_script};
 use sc_types::{CHART_TEXT_LIMIT, SCRIPT_TEXT_LIMIT};
+use sc_words::{Asked, RUN_BUDGET, read_words};
 use std::alloc::Global;
 
 /// Runs the program with the words after its name, and answers its exit status.
 ///
 /// `init` makes a journal on the disk, and the sink takes `created`. With the words `run --workers 0` the source has a
-/// script, which is run on the host that the journal holds, and the sink takes the report. `--budget N` behind them bounds
-/// the steps; without it they are 1,000,000. `show` tells that host. With the word `check` the source has a chart, and the
-/// sink takes `ok` and the number of its states, or, with the status 3, `chart` and its first fault.
+/// script, which is run on the host that the journal holds, and the sink takes the report. `--budget N` bounds the steps;
+/// without it they are 1,000,000. `gen NUMBER SIZE` runs so the script that is drawn from the number, and the sink takes
+/// the summary. `show` tells that host. With the word `check` the source has a chart, and the sink takes `ok` and the
+/// number of its states, or, with the status 3, `chart` and its first fault. Nothing is read yet for a run with workers.
 ///
 /// A run ends at its first fault of the disk, with the status 6, and where the journal has no room for its next command,
 /// with 10; after 8 the steps were used up; and the report ends so. Else the sink takes the line that names the status: 1
 /// `words`, 2 `script` with the first faulty line and its cause, 4 `read`, 6 `disk`, 9 `damaged` and the place or `entry`
-/// and the number, 11 `exists`. After 5, the sink failed and has taken the first part of what was to be written; after 7 the
+/// and the number, 11 `exists`, 12 `not-built`. After 5, the sink failed and has taken the first part of what was to be written; after 7 the
 /// program was out of memory, and nothing was written, but a run may have been journaled in part.
 pub fn top<S: Source, K: Sink, D: Disk>(
     alloc: Global,
@@ -58,9 +63,31 @@ pub fn top<S: Source, K: Sink, D: Disk>(
     ensures few { ConsumesUpTo (most_read (asked (map string_bytes words.now))) (S.left source.old) (S.left source.new) }
     ensures untouched { uses_journal (asked (map string_bytes words.now)) ≡ false → disk.new ≡ disk.old }
 {
-    match saying_of(alloc, read_words(words), source, disk) {
+    match answer(alloc, words, source, disk) {
         Ok(saying) => say(sink, &saying),
         Err(NoMemory) => Status::OutOfMemory.code(),
+    }
+}
+
+/// What there is to say of what the words ask for.
+fn answer<S: Source, D: Disk>(
+    alloc: Global,
+    words: &[String],
+    source: &mut S,
+    disk: &mut D,
+) -> Result<Saying, NoMemory>
+    ensures says { IfOk result (λ s. Says (asked (map string_bytes words.now))
+        (known (S.left source.old) (Rose (S.faults source.old) (S.faults source.new))
+        (disk_known D.tells D.reads D.may_leave D.faults disk.old disk.new)) (status_of s) (text_of s)) }
+    ensures left { OnErr result (Leaves (asked (map string_bytes words.now))
+        (known (S.left source.old) (Rose (S.faults source.old) (S.faults source.new))
+        (disk_known D.tells D.reads D.may_leave D.faults disk.old disk.new))) }
+    ensures few { ConsumesUpTo (most_read (asked (map string_bytes words.now))) (S.left source.old) (S.left source.new) }
+    ensures untouched { uses_journal (asked (map string_bytes words.now)) ≡ false → disk.new ≡ disk.old }
+{
+    match read_words(alloc, words) {
+        Ok(asked) => saying_of(alloc, asked, source, disk),
+        Err(NoMemory) => Err(NoMemory),
     }
 }
 
@@ -82,26 +109,51 @@ fn saying_of<S: Source, D: Disk>(
 {
     match asked {
         Some(Asked::Init) => Ok(journal::init(disk)),
-        Some(Asked::Run(budget)) => run(alloc, budget, source, disk),
+        Some(Asked::Run { workers, budget }) => run(alloc, workers, budget, source, disk),
         Some(Asked::Show) => journal::show(alloc, disk),
         Some(Asked::Check) => check(alloc, source),
+        Some(Asked::Gen { number, size }) => draw(alloc, number, size, disk),
         None => Ok(Saying::OtherWords),
     }
 }
 
+/// What there is to say of a run; that there are no threads yet to step sessions, where some are asked for.
 fn run<S: Source, D: Disk>(
+    alloc: Global,
+    workers: u32,
+    budget: u64,
+    source: &mut S,
+    disk: &mut D,
+) -> Result<Saying, NoMemory>
+    ensures says { IfOk result (λ s. Says (Some (Asked.Run workers budget))
+        (known (S.left source.old) (Rose (S.faults source.old) (S.faults source.new))
+        (disk_known D.tells D.reads D.may_leave D.faults disk.old disk.new)) (status_of s) (text_of s)) }
+    ensures left { OnErr result (Leaves (Some (Asked.Run workers budget))
+        (known (S.left source.old) (Rose (S.faults source.old) (S.faults source.new))
+        (disk_known D.tells D.reads D.may_leave D.faults disk.old disk.new))) }
+    ensures few { ConsumesUpTo (most_read (Some (Asked.Run workers budget))) (S.left source.old) (S.left source.new) }
+    ensures untouched { uses_journal (Some (Asked.Run workers budget)) ≡ false → disk.new ≡ disk.old }
+{
+    if workers == 0 {
+        run_alone(alloc, budget, source, disk)
+    } else {
+        Ok(Saying::NotBuilt)
+    }
+}
+
+fn run_alone<S: Source, D: Disk>(
     alloc: Global,
     budget: u64,
     source: &mut S,
     disk: &mut D,
 ) -> Result<Saying, NoMemory>
-    ensures says { IfOk result (λ s. Says (Some (Asked.Run budget))
+    ensures says { IfOk result (λ s. Says (Some (Asked.Run 0 budget))
         (known (S.left source.old) (Rose (S.faults source.old) (S.faults source.new))
         (disk_known D.tells D.reads D.may_leave D.faults disk.old disk.new)) (status_of s) (text_of s)) }
-    ensures left { OnErr result (Leaves (Some (Asked.Run budget))
+    ensures left { OnErr result (Leaves (Some (Asked.Run 0 budget))
         (known (S.left source.old) (Rose (S.faults source.old) (S.faults source.new))
         (disk_known D.tells D.reads D.may_leave D.faults disk.old disk.new))) }
-    ensures few { ConsumesUpTo (most_read (Some (Asked.Run budget))) (S.left source.old) (S.left source.new) }
+    ensures few { ConsumesUpTo (most_read (Some (Asked.Run 0 budget))) (S.left source.old) (S.left source.new) }
 {
     match read_up_to(alloc, source, SCRIPT_TEXT_LIMIT) {
         Ok(text) => run_text(alloc, budget, text.as_slice(), disk),
@@ -123,9 +175,23 @@ fn run_text<D: Disk>(
         budget (script_of text.now)) }
 {
     match read_script(alloc, text) {
-        Ok(script) => journal::run(alloc, budget, script, disk),
+        Ok(script) => journal::run(alloc, budget, script, Form::Report, disk),
         Err(Failure::Fault(fault)) => Ok(Saying::BadScript(script_fault_line(alloc, &fault)?)),
         Err(Failure::NoMemory) => Err(NoMemory),
+    }
+}
+
+/// What there is to say of a script that is drawn from a number.
+fn draw<D: Disk>(alloc: Global, number: u64, size: u32, disk: &mut D) -> Result<Saying, NoMemory>
+    ensures ok { IfOk result (λ s. Runs (disk_known D.tells D.reads D.may_leave D.faults disk.old disk.new)
+        (λ opened. summary number size) (generated number size) RUN_BUDGET (status_of s) (text_of s)) }
+    ensures err { OnErr result (LeftBy (disk_known D.tells D.reads D.may_leave D.faults disk.old disk.new)
+        (generated number size) RUN_BUDGET) }
+{
+    let form = Form::Summary { number, size };
+    match generate(alloc, number, size) {
+        Ok(script) => journal::run(alloc, RUN_BUDGET, script, form, disk),
+        Err(NoMemory) => Err(NoMemory),
     }
 }
 

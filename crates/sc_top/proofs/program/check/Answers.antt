@@ -1,7 +1,7 @@
 use Rattle.std.proofs.Common.{Some, sym, rules}
 use Rattle.sc_dev.specs.Causes.{Rose}
 use Rattle.sc_top.specs.Promise.{read_fault}
-use Rattle.sc_top.specs.declared.words.Asked.TheVariants.{Check}
+use Rattle.sc_words.specs.declared.asked.Asked.TheVariants.{Check}
 use Rattle.sc_top.proofs.SayingLemmas.{text_says, told_text}
 use Rattle.sc_top.proofs.program.check.Goals as goal
 

@@ -1,10 +1,10 @@
-use Rattle.std.proofs.Common.{◌≡◌, Some, IfOk, sym, subst, rules}
+use Rattle.std.proofs.Common.{◌≡◌, Some, IfOk, OnErr, sym, subst, rules}
 use Rattle.sc_dev.specs.Causes.{Rose}
 use Rattle.sc_top.specs.Journals.{disk_known}
-use Rattle.sc_top.specs.Promise.{Says, initialised, known, other_words}
+use Rattle.sc_top.specs.Promise.{Leaves, Says, initialised, known, other_words}
 use Rattle.sc_top.specs.Sayings.{status_of, text_of}
-use Rattle.sc_top.specs.declared.words.Asked.TheVariants.{Check, Init, Show}
-use Rattle.sc_top.proofs.SayingLemmas.{check_says, show_says}
+use Rattle.sc_words.specs.declared.asked.Asked.TheVariants.{Check, Gen, Init, Show}
+use Rattle.sc_top.proofs.SayingLemmas.{check_says, drawn_leaves, drawn_says, show_says}
 use Rattle.sc_top.proofs.program.saying_of.Goals as goal
 
 pub returns-in-None-clause-says : goal.returns-in-None-clause-says
@@ -31,3 +31,24 @@ returns-in-Some-Check-clause-says g c =
     (disk_known g.D.Disk.tells g.D.Disk.reads g.D.Disk.may_leave g.D.Disk.faults c.args.disk.now c.args.disk.now) in
     subst (λ a. IfOk c.check.result (λ s. Says a k (status_of s) (text_of s))) (sym is)
     (check_says k c.check.result c.check.ensures.says)
+
+pub returns-in-Some-Gen-clause-says : goal.returns-in-Some-Gen-clause-says
+returns-in-Some-Gen-clause-says g c =
+    let number = c.in-Some-Gen.number in
+    let size = c.in-Some-Gen.size in
+    let is : c.args.asked ≡ Some (Gen number size) = search rules in
+    let faults = g.S.Source.faults c.args.source.now in
+    let k = known (g.S.Source.left c.args.source.now) (Rose faults faults)
+    (disk_known g.D.Disk.tells g.D.Disk.reads g.D.Disk.may_leave g.D.Disk.faults c.args.disk.now c.draw.new.disk) in
+    subst (λ a. IfOk c.draw.result (λ s. Says a k (status_of s) (text_of s))) (sym is)
+    (drawn_says number size k c.draw.result c.draw.ensures.ok)
+
+pub returns-in-Some-Gen-clause-left : goal.returns-in-Some-Gen-clause-left
+returns-in-Some-Gen-clause-left g c =
+    let number = c.in-Some-Gen.number in
+    let size = c.in-Some-Gen.size in
+    let is : c.args.asked ≡ Some (Gen number size) = search rules in
+    let faults = g.S.Source.faults c.args.source.now in
+    let k = known (g.S.Source.left c.args.source.now) (Rose faults faults)
+    (disk_known g.D.Disk.tells g.D.Disk.reads g.D.Disk.may_leave g.D.Disk.faults c.args.disk.now c.draw.new.disk) in
+    subst (λ a. OnErr c.draw.result (Leaves a k)) (sym is) (drawn_leaves number size k c.draw.result c.draw.ensures.err)

@@ -21,7 +21,7 @@ loop-self-preserved g c =
     let new = run_of c.make.new.self.book c.make.new.self.left in
     let name = c.in_ok-session.session in
     let at : ready c.host.result.now.image ≡ Some name = search rules in
-    let is_ready : ready c.loop-self.self.book.host ≡ Some name = ap ready (sym c.host.ensures) ∙ at in
+    let is_ready : ready c.loop-self.self.book.host ≡ Some name = ap ready (sym c.host.ensures.host) ∙ at in
     let one_less : c.loop-self.self.left ≡ suc (c.loop-self.self.left - 1) = omega arith in
     record {
       goes = λ cs. goes_further old cur new cs cs cs (c.loop-self.invariant.goes cs)
@@ -49,7 +49,7 @@ returns-in_err-make-clause-stops g c =
     let new = run_of c.make.new.self.book c.make.new.self.left in
     let name = c.in_ok-session.session in
     let at : ready c.host.result.now.image ≡ Some name = search rules in
-    let is_ready : ready c.loop-self.self.book.host ≡ Some name = ap ready (sym c.host.ensures) ∙ at in
+    let is_ready : ready c.loop-self.self.book.host ≡ Some name = ap ready (sym c.host.ensures.host) ∙ at in
     let one_less : c.loop-self.self.left ≡ suc (c.loop-self.self.left - 1) = omega arith in
     rw (p.1, p.2) (λ cs. stops_further g.D.Disk.tells g.D.Disk.may_leave g.D.Disk.may_have_left g.D.Disk.moment
     g.D.Disk.faults g.D.Disk.identity c.in_err-make.field-0.0 old cur new cs cs (c.loop-self.invariant.goes cs)
