@@ -10,22 +10,21 @@ use std::test::Fail;
 fn other_words_are_no_command(rt: HostRuntime) -> Result<(), Fail> {
     for line in [
         "",
-        "run",
-        "run --workers=0",
-        "run --workers 1",
         "--workers 0 run",
         "run --workers 0 0",
+        "run --workers 17",
         "run --workers 0 --budget",
         "run --workers 0 --budget 0",
-        "run --workers 0 --budget 01",
-        "run --workers 0 --budget +1",
         "run --workers 0 --budget -1",
         "run --workers 0 --budget 1000000000001",
         "run --workers 0 --budget 99999999999999999999",
-        "run --budget 1 --workers 0",
         "check x",
         "checks",
         "check --workers 0",
+        "gen 1",
+        "gen 1 0",
+        "gen 1 100001",
+        "help",
     ] {
         let outcome = call(rt.alloc(), line, ONE_LOG.as_bytes())?;
         assert_eq!(rt; outcome.status, 1, "{line}");
@@ -35,13 +34,30 @@ fn other_words_are_no_command(rt: HostRuntime) -> Result<(), Fail> {
 }
 
 #[test]
+fn a_run_with_workers_is_not_built(rt: HostRuntime) -> Result<(), Fail> {
+    for line in [
+        "run",
+        "run --workers 1",
+        "run --workers=16 --budget 7",
+        "run --budget 1",
+    ] {
+        let outcome = call(rt.alloc(), line, ONE_LOG.as_bytes())?;
+        assert_eq!(rt; outcome.status, 12, "{line}");
+        assert_eq!(rt; outcome.written(), b"not-built\n".as_slice(), "{line}");
+    }
+    Ok(())
+}
+
+#[test]
 fn nothing_is_read_for_other_words(rt: HostRuntime) -> Result<(), Fail> {
-    let mut source = MemSource::new(rt.alloc(), b"script", 1000, &[])?;
-    let mut sink = MemSink::new(rt.alloc(), 100, 1000, &[])?;
-    let status = call_over(rt.alloc(), "walk", &mut source, &mut sink)?;
-    assert_eq!(rt; status, 1);
-    let mut left = [0u8; 10];
-    assert_eq!(rt; source.read(&mut left).ok(), Some(6));
+    for (line, want) in [("walk", 1), ("run --workers 3", 12), ("gen 3 1", 0)] {
+        let mut source = MemSource::new(rt.alloc(), b"script", 1000, &[])?;
+        let mut sink = MemSink::new(rt.alloc(), 100, 1000, &[])?;
+        let status = call_over(rt.alloc(), line, &mut source, &mut sink)?;
+        assert_eq!(rt; status, want, "{line}");
+        let mut left = [0u8; 10];
+        assert_eq!(rt; source.read(&mut left).ok(), Some(6), "{line}");
+    }
     Ok(())
 }
 

@@ -1,4 +1,5 @@
-//! Tests of scripts: each fault of a line, what lines say, and what is drawn from a number.
+//! Tests of scripts: each fault of a line, what lines say, and what is drawn from a number. Tests of the words of a
+//! command line.
 #![tactic(auto)]
 
 #[cfg(test)]
@@ -9,3 +10,5 @@ mod faults;
 mod generated;
 #[cfg(test)]
 mod meanings;
+#[cfg(test)]
+mod words;
