@@ -4,6 +4,7 @@ ghost use Rattle.sc_dev.specs.Causes.{HasCause};
 ghost use Rattle.sc_dev.specs.Disks.{Elapses};
 
 use crate::parts::Parts;
+use crate::progress::Progress;
 use sc_dev::{Disk, Failed, Part};
 use std::fs::File;
 use std::io;
@@ -14,6 +15,7 @@ use std::os::unix::fs::FileExt;
 pub struct FileDisk<'a> {
     rt: &'a HostRuntime,
     parts: Parts,
+    progress: Progress,
     moment: u64,
     faults: u64,
 }
@@ -21,13 +23,14 @@ pub struct FileDisk<'a> {
 impl<'a> FileDisk<'a> {
     ghost use Rattle.charthost.specs.Untold.{MayHaveLeft, MayLeave};
 
-    pub fn new(rt: &'a HostRuntime) -> FileDisk<'a>
+    pub fn new(rt: &'a HostRuntime, progress: Progress) -> FileDisk<'a>
         ensures moment { result.moment ≡ 0 }
         ensures faults { result.faults ≡ 0 }
     {
         FileDisk {
             rt,
             parts: Parts::new(),
+            progress,
             moment: 0,
             faults: 0,
         }
@@ -97,6 +100,7 @@ impl Disk for FileDisk<'_> {
             Ok(file) => file.sync_data(),
             Err(error) => Err(error),
         };
+        self.progress.synced(self.rt, part);
         self.counted(answer)
     }
 

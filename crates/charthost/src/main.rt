@@ -4,22 +4,26 @@
 
 mod counted;
 mod file_disk;
+mod help;
 mod parts;
+mod progress;
 
 use counted::Counted;
 use file_disk::FileDisk;
+use progress::Progress;
 use sc_top::Status;
 use sc_types::NoMemory;
 use std::process::ExitCode;
 use std::{env, io};
 
 fn main(rt: HostRuntime) -> ExitCode {
+    let is_helped = help::is_wanted(&rt);
     let Ok(words) = words(&rt) else {
-        return ExitCode::from(Status::OutOfMemory.code());
+        return help::ended(&rt, is_helped, Status::OutOfMemory.code());
     };
     let mut input = Counted::new(rt.stdin());
     let mut output = Counted::new(rt.stdout());
-    let mut disk = FileDisk::new(&rt);
+    let mut disk = FileDisk::new(&rt, Progress::new(is_helped));
     let status = sc_top::top(
         rt.alloc(),
         words.as_slice(),
@@ -27,7 +31,7 @@ fn main(rt: HostRuntime) -> ExitCode {
         &mut output,
         &mut disk,
     );
-    ExitCode::from(status)
+    help::ended(&rt, is_helped, status)
 }
 
 // The words after the program's name. A command line with a word that is not UTF-8 is no command, and is
