@@ -7,7 +7,7 @@ use Rattle.std.proofs.lemmas.Option.{slice_get_within}
 use Rattle.std.proofs.lemmas.Bool.{cases_eq, true≢false}
 use Rattle.sc_pool.specs.Clients.{HasMet, HasNone, IsMade, KeepsMade, Marks, Takes, TakesNext, left_at}
 use Rattle.sc_pool.specs.Keeping.{Follows, IsFree, clients_from}
-use Rattle.sc_pool.specs.Pools.{script_of}
+use Rattle.sc_pool.specs.Plans.{script_of}
 use Rattle.sc_pool.specs.declared.client.Client.{Client}
 use Rattle.sc_pool.specs.declared.client.Taken.{Taken}
 use Rattle.sc_pool.specs.declared.client.Taken.TheVariants.{Next, Over, Met}

@@ -1,3 +1,4 @@
 pub mod ServingLemmas
 mod ClientLemmas
 mod PoolLemmas
+mod SetUpLemmas

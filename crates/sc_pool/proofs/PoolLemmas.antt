@@ -14,18 +14,22 @@ use Rattle.sc_types.specs.declared.history.Who.{Who}
 use Rattle.sc_types.specs.declared.history.Who.TheVariants as who
 use Rattle.sc_pool.specs.Clients.{AllMade, IsMade, Marks, TakesNext}
 use Rattle.sc_pool.specs.Keeping.{Follows, HasMade, IsFree, IsSpent, IsWorst, Keeps, Progress, StartsAt, clients_from}
-use Rattle.sc_pool.specs.Pools.{ComesNext, HaveNoStep, IsPlaced, IsShown, Planned, Ran, rank, rank_of, script_of}
-use Rattle.sc_core.specs.Accepted.{accepted_steps, is_accepted_step}
+use Rattle.sc_pool.specs.Plans.{ComesNext, Finished, HaveNoStep, IsPlaced, Planned, script_of}
+use Rattle.sc_pool.specs.Pools.{IsShown, rank, rank_of}
+use Rattle.sc_core.specs.Accepted.{accepted_steps, is_accepted, is_accepted_step}
+use Rattle.sc_core.specs.Commands.{answer}
+use Rattle.sc_core.specs.Histories.{replay}
+use Rattle.sc_book.specs.Books.{opening}
 use Rattle.sc_pool.specs.Serving.{IsPrefix, commands_of, is_of, is_served, served_by}
 use Rattle.sc_pool.specs.Sharing.{Adds, AddsStep, Fails, FailsToStep, GoesOn, IsDoubted, IsSame, IsWhy, Seen}
 use Rattle.sc_pool.specs.declared.client.Client.{Client}
 use Rattle.sc_pool.proofs.ClientLemmas.{begun, free, get_set_other, get_set_same}
 use Rattle.sc_pool.proofs.ServingLemmas.{all_served-more, commands_of-other, commands_of-own, no_client, no_step_next, other_client, same_client, steps-more, steps-none}
 
-true_is : {b : Bool} → b ≡ true → IsTrue b
+pub true_is : {b : Bool} → b ≡ true → IsTrue b
 true_is e = search rules
 
-is_true : {b : Bool} → IsTrue b → b ≡ true
+pub is_true : {b : Bool} → IsTrue b → b ≡ true
 is_true t = search rules
 
 some_is : {A : Type 0} {x y : A} → Some x ≡ Some y → x ≡ y
@@ -48,7 +52,7 @@ goes_then a b c h k = record {
 rose_later : (a b c : ℕ) → Rose a b → b ≤ c → Rose a c
 rose_later a b c r l = omega (arith, r, l)
 
-rose_sooner : (a b c : ℕ) → a ≤ b → Rose b c → Rose a c
+pub rose_sooner : (a b c : ℕ) → a ≤ b → Rose b c → Rose a c
 rose_sooner a b c l r = omega (arith, r, l)
 
 -- the worst fault is shown still
@@ -60,7 +64,7 @@ shown_later a b c (Some Full) shown goes = goes.tight shown
 shown_later a b c (Some NoMemory) shown goes = tt
 
 -- a fault shows itself
-shown_now : (a b c : Seen) (by : Who) (command : Command) (fault : CallFault) → GoesOn a b → IsWhy by command fault b c
+pub shown_now : (a b c : Seen) (by : Who) (command : Command) (fault : CallFault) → GoesOn a b → IsWhy by command fault b c
     → IsShown a c (Some fault)
 shown_now a b c by command Disk goes why = rose_sooner a.faults b.faults c.faults goes.later why.0
 shown_now a b c by command Full goes why = why.0
@@ -76,41 +80,42 @@ shown_worst a b c by command noted fault worst shown before goes why is = elim i
 
 -- commands in doubt came next still, with more entries
 
-more_placed : (scripts : List (List Command)) (least : ℕ) (fresh more : List Entry) (d : Doubt) → IsPlaced scripts least fresh d
-    → IsPlaced scripts least (fresh ++ more) d
-more_placed scripts least fresh more d p = record {
-  front = p.front;
-  rest = p.rest ++ more;
-  whole = ap (λ (es : List Entry). es ++ more) p.whole ∙ append_assoc p.front p.rest more;
-  before = p.before;
-  next = p.next;
+more_placed : (p : Planned) (fresh more : List Entry) (d : Doubt) → IsPlaced p fresh d
+    → IsPlaced p (fresh ++ more) d
+more_placed p fresh more d is = record {
+  front = is.front;
+  rest = is.rest ++ more;
+  whole = ap (λ (es : List Entry). es ++ more) is.whole ∙ append_assoc is.front is.rest more;
+  before = is.before;
+  next = is.next;
+  accepted = is.accepted;
 }
 
-all_placed : (scripts : List (List Command)) (least : ℕ) (fresh more : List Entry) (ds : List Doubt)
-    → AllByRecursion (IsPlaced scripts least fresh) ds → AllByRecursion (IsPlaced scripts least (fresh ++ more)) ds
-all_placed scripts least fresh more [] all = tt
-all_placed scripts least fresh more (d ∷ ds) all =
-    (more_placed scripts least fresh more d all.0, all_placed scripts least fresh more ds all.1)
+all_placed : (p : Planned) (fresh more : List Entry) (ds : List Doubt)
+    → AllByRecursion (IsPlaced p fresh) ds → AllByRecursion (IsPlaced p (fresh ++ more)) ds
+all_placed p fresh more [] all = tt
+all_placed p fresh more (d ∷ ds) all =
+    (more_placed p fresh more d all.0, all_placed p fresh more ds all.1)
 
-one_placed : (scripts : List (List Command)) (least : ℕ) (fresh : List Entry) (ds : List Doubt) (d : Doubt)
-    → AllByRecursion (IsPlaced scripts least fresh) ds → IsPlaced scripts least fresh d
-    → AllByRecursion (IsPlaced scripts least fresh) (ds ++ d ∷ [])
-one_placed scripts least fresh [] d all one = (one, tt)
-one_placed scripts least fresh (x ∷ xs) d all one = (all.0, one_placed scripts least fresh xs d all.1 one)
+one_placed : (p : Planned) (fresh : List Entry) (ds : List Doubt) (d : Doubt)
+    → AllByRecursion (IsPlaced p fresh) ds → IsPlaced p fresh d
+    → AllByRecursion (IsPlaced p fresh) (ds ++ d ∷ [])
+one_placed p fresh [] d all one = (one, tt)
+one_placed p fresh (x ∷ xs) d all one = (all.0, one_placed p fresh xs d all.1 one)
 
 -- what a fault leaves in doubt
 pub record Doubtful (p : Planned) (fresh : List Entry) (now : Seen) : Type 0 where
   pub doubtful : List Doubt
   pub doubts : now.doubts ≡ p.start.doubts ++ doubtful
-  pub placed : AllByRecursion (IsPlaced p.scripts (length p.start.entries) fresh) doubtful
+  pub placed : AllByRecursion (IsPlaced p fresh) doubtful
 
 same_doubts : (p : Planned) (fresh more : List Entry) (old new : Seen) (ds : List Doubt) → old.doubts ≡ p.start.doubts ++ ds
-    → AllByRecursion (IsPlaced p.scripts (length p.start.entries) fresh) ds → new.doubts ≡ old.doubts
+    → AllByRecursion (IsPlaced p fresh) ds → new.doubts ≡ old.doubts
     → Doubtful p (fresh ++ more) new
 same_doubts p fresh more old new ds is all same = record {
   doubtful = ds;
   doubts = same ∙ is;
-  placed = all_placed p.scripts (length p.start.entries) fresh more ds all;
+  placed = all_placed p fresh more ds all;
 }
 
 -- the client at a place, as it follows its list
@@ -269,10 +274,19 @@ failed_follow p old clients after marked worst place number c k t m other =
 
 -- what is in doubt after a command of a client that was not answered
 
+-- the host accepted the command that is in doubt
+accepted_there : (p : Planned) (fresh : List Entry) (by : Who) (c : Command) (old new : Seen) → old.entries ≡ p.start.entries ++ fresh
+    → GoesOn p.start old → (d : IsDoubted by c old new) → (past : List Command) → p.start.stands past
+    → is_accepted (answer (replay (opening past) (p.start.entries ++ fresh)) d.doubt.command).reply ≡ true
+accepted_there p fresh by c old new begins goes d past stands =
+    ap (λ x. is_accepted (answer (replay (opening past) (p.start.entries ++ fresh)) x).reply) d.command
+    ∙ ap (λ (es : List Entry). is_accepted (answer (replay (opening past) es) c).reply) (sym begins)
+    ∙ d.accepted past (goes.kept past stands)
+
 doubt_placed : (p : Planned) (fresh : List Entry) (place number : ℕ) (c : Command) (rest : List Command) (old new : Seen)
-    → old.entries ≡ p.start.entries ++ fresh → IsNext p fresh place number c rest → (d : IsDoubted (who.Client number) c old new)
-    → IsPlaced p.scripts (length p.start.entries) fresh d.doubt
-doubt_placed p fresh place number c rest old new begins n d = record {
+    → old.entries ≡ p.start.entries ++ fresh → GoesOn p.start old → IsNext p fresh place number c rest
+    → (d : IsDoubted (who.Client number) c old new) → IsPlaced p fresh d.doubt
+doubt_placed p fresh place number c rest old new begins goes n d = record {
   front = fresh;
   rest = [];
   whole = sym (append-nil fresh);
@@ -288,12 +302,13 @@ doubt_placed p fresh place number c rest old new begins n d = record {
               ∙ ap (λ x. (commands_of (who.Client number) fresh ++ x ∷ []) ++ rest) (sym d.command);
         },
       ));
+  accepted = accepted_there p fresh (who.Client number) c old new begins goes d;
 }
 
 step_placed : (p : Planned) (fresh : List Entry) (session : List ℕ) (old new : Seen)
-    → old.entries ≡ p.start.entries ++ fresh → (d : IsDoubted who.Worker (Step session) old new)
-    → IsPlaced p.scripts (length p.start.entries) fresh d.doubt
-step_placed p fresh session old new begins d = record {
+    → old.entries ≡ p.start.entries ++ fresh → GoesOn p.start old → (d : IsDoubted who.Worker (Step session) old new)
+    → IsPlaced p fresh d.doubt
+step_placed p fresh session old new begins goes d = record {
   front = fresh;
   rest = [];
   whole = sym (append-nil fresh);
@@ -301,24 +316,25 @@ step_placed p fresh session old new begins d = record {
   next = (let P : Who → Type 0 = λ w. ComesNext p.scripts fresh w d.doubt.command in
       let Q : Command → Type 0 = λ x. ComesNext p.scripts fresh who.Worker x in
       subst P (sym d.by) (subst Q (sym d.command) tt));
+  accepted = accepted_there p fresh who.Worker (Step session) old new begins goes d;
 }
 
 no_more : (p : Planned) (fresh : List Entry) (old new : Seen) (ds : List Doubt) → old.doubts ≡ p.start.doubts ++ ds
-    → AllByRecursion (IsPlaced p.scripts (length p.start.entries) fresh) ds → new.doubts ≡ old.doubts → Doubtful p fresh new
+    → AllByRecursion (IsPlaced p fresh) ds → new.doubts ≡ old.doubts → Doubtful p fresh new
 no_more p fresh old new ds is all same = record { doubtful = ds; doubts = same ∙ is; placed = all }
 
 one_more : (p : Planned) (fresh : List Entry) (old new : Seen) (ds : List Doubt) (by : Who) (c : Command)
-    → old.doubts ≡ p.start.doubts ++ ds → AllByRecursion (IsPlaced p.scripts (length p.start.entries) fresh) ds
-    → (d : IsDoubted by c old new) → IsPlaced p.scripts (length p.start.entries) fresh d.doubt → Doubtful p fresh new
+    → old.doubts ≡ p.start.doubts ++ ds → AllByRecursion (IsPlaced p fresh) ds
+    → (d : IsDoubted by c old new) → IsPlaced p fresh d.doubt → Doubtful p fresh new
 one_more p fresh old new ds by c is all d placed = record {
   doubtful = ds ++ d.doubt ∷ [];
   doubts = d.doubts ∙ ap (λ (xs : List Doubt). xs ++ d.doubt ∷ []) is ∙ append_assoc p.start.doubts ds (d.doubt ∷ []);
-  placed = one_placed p.scripts (length p.start.entries) fresh ds d.doubt all placed;
+  placed = one_placed p fresh ds d.doubt all placed;
 }
 
 doubtful_after : (p : Planned) (fresh : List Entry) (old new : Seen) (ds : List Doubt) (by : Who) (c : Command) (fault : CallFault)
-    → old.doubts ≡ p.start.doubts ++ ds → AllByRecursion (IsPlaced p.scripts (length p.start.entries) fresh) ds
-    → ((d : IsDoubted by c old new) → IsPlaced p.scripts (length p.start.entries) fresh d.doubt) → IsWhy by c fault old new
+    → old.doubts ≡ p.start.doubts ++ ds → AllByRecursion (IsPlaced p fresh) ds
+    → ((d : IsDoubted by c old new) → IsPlaced p fresh d.doubt) → IsWhy by c fault old new
     → Doubtful p fresh new
 doubtful_after p fresh old new ds by c Disk is all placed why = elim why.1 [
   | inl same ↦ no_more p fresh old new ds is all same
@@ -341,7 +357,7 @@ sure_now p old new by c noted NoMemory worst sure why is low =
     let above : 3 ≤ rank worst = is.above in
     absurd (omega (arith, above, low))
 
-some_not_none : (fault : CallFault) → Some fault ≡ None → ⊥
+pub some_not_none : (fault : CallFault) → Some fault ≡ None → ⊥
 some_not_none fault e = cc
 
 -- a command of a client met a fault
@@ -352,7 +368,7 @@ pub client_failed : (p : Planned) (old new : Seen) (clients after marked : List 
 client_failed p old new clients after marked noted place number c fault worst k t m f goes is =
     let n = next_of p old clients after noted place number c k t in
     let d = doubtful_after p k.fresh old new k.doubtful (who.Client number) c fault k.doubts k.placed
-    (doubt_placed p k.fresh place number c t.rest old new k.begins n) f.why in
+    (doubt_placed p k.fresh place number c t.rest old new k.begins k.goes_on n) f.why in
     record {
       no_step = k.no_step;
       fresh = k.fresh;
@@ -400,7 +416,7 @@ pub worker_failed : (p : Planned) (old new : Seen) (clients : List Client) (note
     → Keeps p new clients (Some worst)
 worker_failed p old new clients noted fault worst k f goes is =
     let d = doubtful_after p k.fresh old new k.doubtful who.Worker (Step f.session) fault k.doubts k.placed
-    (step_placed p k.fresh f.session old new k.begins) f.fails.why in
+    (step_placed p k.fresh f.session old new k.begins k.goes_on) f.fails.why in
     record {
       no_step = k.no_step;
       fresh = k.fresh;
@@ -498,7 +514,7 @@ whole_of number script made (Some client) follows free is_made =
 
 -- what is kept behind the lock at the end is what the pool leaves
 pub ran : (p : Planned) (seen : Seen) (clients : List Client) (worst : Option CallFault) → Keeps p seen clients worst
-    → AllMade clients → (worst ≡ None → seen.ready ≡ true → accepted_steps seen.entries ≡ p.budget) → Ran p seen worst
+    → AllMade clients → (worst ≡ None → seen.ready ≡ true → accepted_steps seen.entries ≡ p.budget) → Finished p seen worst
 ran p seen clients worst k all spent = record {
   fresh = k.fresh;
   begins = k.begins;
@@ -520,14 +536,14 @@ ran p seen clients worst k all spent = record {
 -- the same of what contracts see of it
 pub ran_of : (p : Planned) (seen : Seen) (at : Progress) (before : List Client) (worst : Option CallFault) → Keeps p seen at.clients at.worst
     → worst ≡ at.worst → seen.entries ≡ at.entries → seen.ready ≡ at.ready → AllMade before → at.clients ≡ before
-    → (at.worst ≡ None → IsSpent p.budget at) → Ran p seen worst
+    → (at.worst ≡ None → IsSpent p.budget at) → Finished p seen worst
 ran_of p seen at before worst k same entries ready all clients spent =
-    let P : Option CallFault → Type 0 = λ w. Ran p seen w in
+    let P : Option CallFault → Type 0 = λ w. Finished p seen w in
     subst P (sym same) (ran p seen at.clients at.worst k (subst AllMade (sym clients) all)
     (λ none is_ready. ap accepted_steps entries ∙ spent none (sym ready ∙ is_ready)))
 
 -- a pool that had no memory made nothing
-pub nothing_ran : (p : Planned) (seen : Seen) → StartsAt p.start seen → accepted_steps seen.entries ≤ p.budget → Ran p seen (Some NoMemory)
+pub nothing_ran : (p : Planned) (seen : Seen) → StartsAt p.start seen → accepted_steps seen.entries ≤ p.budget → Finished p seen (Some NoMemory)
 nothing_ran p seen starts within =
     record {
       fresh = [];

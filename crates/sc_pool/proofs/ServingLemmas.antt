@@ -10,11 +10,11 @@ use Rattle.sc_types.specs.declared.history.Entry.{Entry}
 use Rattle.sc_types.specs.declared.history.Who.{Who}
 use Rattle.sc_types.specs.declared.history.Who.TheVariants.{Client, Worker}
 use Rattle.sc_script.specs.Steps.{IsNoStep}
-use Rattle.sc_pool.specs.Pools.{script_of}
+use Rattle.sc_pool.specs.Plans.{script_of}
 use Rattle.sc_core.specs.Accepted.{accepted_steps, is_accepted_step}
 use Rattle.sc_pool.specs.Serving.{commands_of, is_of, is_served}
 
-abbrev with_first : Who → Entry → List Entry → Bool → List Command
+abbrev pub with_first : Who → Entry → List Entry → Bool → List Command
 with_first who e es b = map (λ (x : Entry). x.command)
     (cond b (e ∷ filter (λ (x : Entry). is_of who x.who) es) (filter (λ (x : Entry). is_of who x.who) es))
 
@@ -60,7 +60,7 @@ and_more : (a b c d : Bool) → d ≡ (b && c) → (a && d) ≡ ((a && b) && c)
 and_more true b c d e = e
 and_more false b c d e = refl
 
-all_served-append : (xs ys : List Entry) → list_all is_served (xs ++ ys) ≡ (list_all is_served xs && list_all is_served ys)
+pub all_served-append : (xs ys : List Entry) → list_all is_served (xs ++ ys) ≡ (list_all is_served xs && list_all is_served ys)
 all_served-append [] ys = refl
 all_served-append (x ∷ xs) ys =
     and_more (is_served x) (list_all is_served xs) (list_all is_served ys) (list_all is_served (xs ++ ys)) (all_served-append xs ys)

@@ -6,7 +6,8 @@ use Rattle.sc_book.specs.declared.fault.CallFault.{CallFault}
 use Rattle.sc_types.specs.declared.command.Command.{Command}
 use Rattle.sc_types.specs.declared.history.Entry.{Entry}
 use Rattle.sc_types.specs.declared.history.Who.TheVariants as who
-use Rattle.sc_pool.specs.Pools.{HaveNoStep, IsPlaced, IsShown, Planned, rank, rank_of, script_of}
+use Rattle.sc_pool.specs.Plans.{HaveNoStep, IsPlaced, Planned, script_of}
+use Rattle.sc_pool.specs.Pools.{IsShown, rank, rank_of}
 use Rattle.sc_core.specs.Accepted.{accepted_steps}
 use Rattle.sc_pool.specs.Serving.{commands_of, is_served}
 use Rattle.sc_pool.specs.Sharing.{GoesOn, IsSame, Seen}
@@ -55,7 +56,7 @@ pub record Keeps (p : Planned) (seen : Seen) (clients : List Client) (worst : Op
   pub within : accepted_steps seen.entries ≤ p.budget
   pub doubtful : List Doubt
   pub doubts : seen.doubts ≡ p.start.doubts ++ doubtful
-  pub placed : AllByRecursion (IsPlaced p.scripts (length p.start.entries) fresh) doubtful
+  pub placed : AllByRecursion (IsPlaced p fresh) doubtful
   pub goes_on : GoesOn p.start seen
   pub shown : IsShown p.start seen worst
   pub silent : worst ≡ None → (place : ℕ) → IsFree (slice_get clients place)

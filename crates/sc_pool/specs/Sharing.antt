@@ -1,5 +1,6 @@
 -- What jobs see of a host that they share, and what each of their calls does. This host's own rule.
 use Rattle.std.specs.Prelude.{ℕ, ◌≡◌, ◌≤◌, ◌⊎◌, ◌++◌, Bool, true, false, List, [], ◌∷◌, length}
+use Rattle.sc_book.specs.Books.{opening}
 use Rattle.sc_book.specs.declared.doubt.Doubt.{Doubt}
 use Rattle.sc_book.specs.declared.fault.CallFault.{CallFault}
 use Rattle.sc_book.specs.declared.fault.CallFault.TheVariants.{Disk, Full, NoMemory}
@@ -9,7 +10,9 @@ use Rattle.sc_types.specs.declared.command.Command.TheVariants.{Step}
 use Rattle.sc_types.specs.declared.history.Entry.{Entry}
 use Rattle.sc_types.specs.declared.history.Who.{Who}
 use Rattle.sc_types.specs.declared.history.Who.TheVariants.{Worker}
-use Rattle.sc_core.specs.Accepted.{is_accepted_step}
+use Rattle.sc_core.specs.Accepted.{is_accepted, is_accepted_step}
+use Rattle.sc_core.specs.Commands.{answer}
+use Rattle.sc_core.specs.Histories.{replay}
 
 -- What is seen of a host: how many commands its journal held at the opening, its history and the commands in doubt, whether
 -- a session is ready, how often its disk has failed, which disk it is, whether the journal lacks room for some command, and
@@ -53,13 +56,15 @@ pub record AddsStep (old new : Seen) : Type 0 where
   pub accepted : is_accepted_step entry.command entry.reply ≡ true
   pub doubts : new.doubts ≡ old.doubts
 
--- the command is kept as one that a fault of the disk left in doubt
+-- the command is kept as one that a fault of the disk left in doubt, and the host accepted it
 pub record IsDoubted (who : Who) (c : Command) (old new : Seen) : Type 0 where
   pub doubt : Doubt
   pub doubts : new.doubts ≡ old.doubts ++ doubt ∷ []
   pub by : doubt.who ≡ who
   pub command : doubt.command ≡ c
   pub before : doubt.before ≡ length old.entries
+  pub accepted : (past : List Command) → old.stands past
+      → is_accepted (answer (replay (opening past) old.entries) c).reply ≡ true
 
 -- why a command was not answered, and whether it is in doubt
 abbrev pub IsWhy : Who → Command → CallFault → Seen → Seen → Type 0

@@ -1,15 +1,19 @@
 ghost use Rattle.std.specs.Prelude.{◌≡◌, ◌-◌, ◌≤◌, ◌<◌, ◌^◌, false, List, Some, IfOk, length};
 ghost use Rattle.sc_pool.specs.Keeping.{StartsAt, clients_from};
-ghost use Rattle.sc_pool.specs.Pools.{HaveNoStep, Ran, planned};
+ghost use Rattle.sc_pool.specs.Plans.{Finished, HaveNoStep, planned};
+ghost use Rattle.sc_pool.specs.Pools.{Ran};
+ghost use Rattle.sc_script.specs.Steps.{HasNoStep};
 ghost use Rattle.sc_core.specs.Accepted.{accepted_steps};
 ghost use Rattle.sc_types.specs.declared.command.Command.{Command};
 
 use crate::client::{Client, CommandList};
 use crate::locked::{Locked, Look, Plan, Round};
+use crate::set_up::set_up;
 use crate::shared_host::SharedHost;
 use sc_base::NoMemory;
 use sc_book::CallFault;
 use sc_dev::Gate;
+use sc_script::Script;
 use sc_types::{Command, Sequence};
 use std::alloc::Global;
 use std::marker::Brand;
@@ -19,6 +23,9 @@ use std::thread::Threads;
 
 /// How often in a row a worker looks for a session to step and finds none, before it ends.
 const IDLE_LOOKS: u32 = 1_000;
+
+/// More clients than any script has.
+const MOST_CLIENTS: usize = 0xffff_ffff;
 
 /// What a thread does.
 #[derive(Clone, Copy, Debug, PartialEq, Eq)]
@@ -149,7 +156,7 @@ fn run_locked<
     mut jobs: Vec<Job>,
     locked: Locked<H, J>,
 ) -> (H, Option<CallFault>)
-    ensures { Ran J.plan (H.seen result.0) result.1 }
+    ensures { Finished J.plan (H.seen result.0) result.1 }
 {
     let threads = jobs.len().max(1);
     let shared = Mutex::new(locked);
@@ -188,7 +195,7 @@ fn run_planned<
     requires start { StartsAt J.plan.start (H.seen host) }
     requires budget { budget ≡ J.plan.budget }
     requires within { accepted_steps (H.seen host).entries ≤ budget }
-    ensures { Ran J.plan (H.seen result.0) result.1 }
+    ensures { Finished J.plan (H.seen result.0) result.1 }
 {
     let Ok(jobs) = jobs_of(alloc, scripts.len(), workers) else {
         return (host, Some(CallFault::NoMemory));
@@ -204,7 +211,7 @@ fn run_planned<
 
 /// Makes the commands of all clients, each in the order of its list, and lets workers step what is ready, with a thread for
 /// each client and each worker. Answers the host, and the worst fault that a job met.
-pub fn run<H: SharedHost + Drop + Send, R: Threads + Wait + Sync, G: Gate>(
+fn run<H: SharedHost + Drop + Send, R: Threads + Wait + Sync, G: Gate>(
     rt: &R,
     alloc: Global,
     host: H,
@@ -217,7 +224,39 @@ pub fn run<H: SharedHost + Drop + Send, R: Threads + Wait + Sync, G: Gate>(
     requires few { length scripts < 2 ^ 32 - 1 }
     requires no_step { HaveNoStep scripts }
     requires within { accepted_steps (H.seen host).entries ≤ budget }
-    ensures { Ran (planned scripts budget (H.seen host)) (H.seen result.0) result.1 }
+    ensures { Finished (planned scripts budget (H.seen host)) (H.seen result.0) result.1 }
 {
     run_planned::<H, Brand, R, G>(rt, alloc, host, engine, scripts, workers, budget, gate)
+}
+
+/// Makes the commands of a script on a host that is shared. Those of the set-up come first, without steps, as client 0; a
+/// fault there ends it all. Then each client makes its commands in the order of its list, and workers step what is ready,
+/// with a thread for each client and each worker.
+///
+/// Answers the host, and the worst fault that a job met: want of memory before a fault of the disk, and that before a full
+/// journal. A job that meets a fault ends, and the others go on.
+pub fn run_jobs<H: SharedHost + Drop + Send, R: Threads + Wait + Sync, G: Gate>(
+    rt: &R,
+    alloc: Global,
+    host: H,
+    engine: &H::Engine,
+    script: Script,
+    workers: u32,
+    budget: u64,
+    gate: &G,
+) -> (H, Option<CallFault>)
+    requires no_step { HasNoStep script }
+    requires within { accepted_steps (H.seen host).entries ≤ budget }
+    ensures { Ran script budget (H.seen host) (H.seen result.0) result.1 }
+{
+    let mut host = host;
+    let Script { setup, clients } = script;
+    // Their numbers are of 32 bits.
+    if clients.len() >= MOST_CLIENTS {
+        return (host, Some(CallFault::NoMemory));
+    }
+    match set_up(alloc, &mut host, setup) {
+        Ok(()) => run(rt, alloc, host, engine, clients, workers, budget, gate),
+        Err(fault) => (host, Some(fault)),
+    }
 }

@@ -8,7 +8,8 @@
 mod client;
 mod jobs;
 mod locked;
+mod set_up;
 mod shared_host;
 
-pub use jobs::run;
+pub use jobs::run_jobs;
 pub use shared_host::SharedHost;

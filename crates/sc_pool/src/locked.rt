@@ -1,7 +1,7 @@
 ghost use Rattle.std.specs.Prelude.{◌≡◌, ◌≤◌, ◌<◌, None, Some, false, true, length, slice_get};
 ghost use Rattle.sc_pool.specs.Clients.{AllMade, IsMade, KeepsMade, Rounds};
 ghost use Rattle.sc_pool.specs.Keeping.{Begins, IsSpent, IsWorst, Keeps, StartsAt, StepsOnce};
-ghost use Rattle.sc_pool.specs.Pools.{HaveNoStep};
+ghost use Rattle.sc_pool.specs.Plans.{HaveNoStep};
 ghost use Rattle.sc_core.specs.Accepted.{accepted_steps};
 
 use crate::client::{Client, Taken, mark, take};
@@ -15,14 +15,14 @@ use std::marker::{Brand, Model, PhantomData};
 
 /// What a pool is to make, and what it began with. Each run picks it.
 pub trait Plan {
-    ghost use Rattle.sc_pool.specs.Pools.{Planned};
+    ghost use Rattle.sc_pool.specs.Plans.{Planned};
 
     ghost plan: { Planned };
 }
 
 impl Plan for Brand {
     ghost use Rattle.std.specs.Prelude.{[], false};
-    ghost use Rattle.sc_pool.specs.Pools.{nothing_planned};
+    ghost use Rattle.sc_pool.specs.Plans.{nothing_planned};
 
     ghost plan = { nothing_planned };
 }

@@ -38,10 +38,6 @@ pub trait SharedHost {
     fn steps_made(&self) -> u64
         ensures { result ≡ accepted_steps (seen self.now).entries };
 
-    /// Whether a session is ready.
-    fn is_ready(&self) -> bool
-        ensures { result ≡ (seen self.now).ready };
-
     /// Claims the ready session that was started first among those that are not claimed, where the steps that were
     /// accepted and the claims that are open are fewer than the budget.
     fn claim_next(&mut self, alloc: Global, budget: u64) -> Result<Option<Self::Ticket>, NoMemory>

@@ -12,8 +12,8 @@ use Rattle.sc_script.specs.declared.script.Script.{Script}
 use Rattle.sc_core.specs.Accepted.{accepted_steps, is_accepted_step}
 use Rattle.sc_core.specs.Commands.{answer}
 use Rattle.sc_core.specs.Cues.{ready}
-use Rattle.sc_pool.specs.Serving.{commands_of, is_of, is_served}
-use Rattle.sc_top.specs.Run.{IsFront, IsRun, Made, Serves, ServesInPart, is_of_later, is_setup, is_setup_first, next, of_ready, of_script}
+use Rattle.sc_pool.specs.Serving.{Serves, ServesInPart, commands_of, is_of, is_of_later, is_served, is_setup, is_setup_first}
+use Rattle.sc_top.specs.Run.{IsFront, IsRun, Made, next, of_ready, of_script}
 use Rattle.sc_top.proofs.RunLemmas.{entry_enters, entry_of, makes_on, steps_on}
 
 -- ---- a run has an end

@@ -13,8 +13,8 @@ use Rattle.sc_core.specs.Accepted.{is_accepted_step}
 use Rattle.sc_core.specs.Commands.{answer}
 use Rattle.sc_core.specs.Cues.{ready}
 use Rattle.sc_core.proofs.NameLemmas.{AreDistinct, ready_stepped}
-use Rattle.sc_pool.specs.Serving.{commands_of, is_of, is_served, served_by}
-use Rattle.sc_top.specs.Run.{Enters, IsRun, Made, Serves, in_turn, is_later, is_setup, is_setup_first, list_of, of_client, of_clients}
+use Rattle.sc_pool.specs.Serving.{Serves, commands_of, is_later, is_of, is_served, is_setup, is_setup_first, list_of, served_by}
+use Rattle.sc_top.specs.Run.{Enters, IsRun, Made, in_turn, of_client, of_clients}
 use Rattle.sc_top.proofs.RunsLemmas.{First, RunsOn, distinct_after, first_entry, made, over_commands, stepped}
 
 -- what the clients made, with their numbers, in order

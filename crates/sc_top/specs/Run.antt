@@ -1,6 +1,5 @@
--- The run of a script on one thread, and whose commands a history has. This host's own rule.
-use Rattle.std.specs.Prelude.{ℕ, ◌+◌, ◌≡◌, ◌≢◌, ◌≤◌, ◌==◌, ◌&&◌, Bool, true, false, not, Option, Some, None, IsTrue, List, [], ◌∷◌, ◌++◌, map, slice_get, unwrap_or}
-use Rattle.std.specs.List.{list_all, list_any}
+-- The run of a script on one thread. This host's own rule.
+use Rattle.std.specs.Prelude.{ℕ, ◌+◌, ◌≡◌, ◌≢◌, ◌≤◌, true, Option, Some, None, List, [], ◌∷◌, ◌++◌, map}
 use Rattle.std.proofs.Common.{zero, suc}
 use Rattle.sc_types.specs.declared.command.Command.{Command}
 use Rattle.sc_types.specs.declared.command.Command.TheVariants.{Step}
@@ -9,7 +8,7 @@ use Rattle.sc_types.specs.declared.history.Who.{Who}
 use Rattle.sc_types.specs.declared.history.Who.TheVariants.{Client, Worker}
 use Rattle.sc_types.specs.declared.host.HostImage.{HostImage}
 use Rattle.sc_script.specs.declared.script.Script.{Script}
-use Rattle.sc_pool.specs.Serving.{IsPrefix, commands_of, is_of, is_served}
+use Rattle.sc_pool.specs.Serving.{Serves, ServesInPart}
 use Rattle.sc_book.specs.Books.{opening}
 use Rattle.sc_core.specs.Accepted.{accepted_steps, is_accepted}
 use Rattle.sc_core.specs.Commands.{answer}
@@ -73,40 +72,6 @@ Continues over g cs budget e Rest = ⊥
 abbrev pub IsRun : HostImage → List Made → ℕ → List Entry → Type 0
 IsRun g cs budget [] = next g cs budget ≡ over
 IsRun g cs budget (e ∷ es) = Continues (next g cs budget) g cs budget e (λ g' cs' budget'. IsRun g' cs' budget' es)
-
--- the commands that a script has for a client
-abbrev pub list_of : Script → ℕ → List Command
-list_of s zero = s.setup
-list_of s (suc n) = unwrap_or (slice_get s.clients n) []
-
-abbrev pub is_setup : Entry → Bool
-is_setup e = is_of (Client 0) e.who
-
-abbrev pub is_later : Who → Bool
-is_later Worker = false
-is_later (Client n) = not (n == 0)
-
-abbrev pub is_of_later : Entry → Bool
-is_of_later e = is_later e.who
-
--- no entry of the set-up stands behind one of another client
-abbrev pub is_setup_first : List Entry → Bool
-is_setup_first [] = true
-is_setup_first (e ∷ es) = not (is_of_later e && list_any is_setup es) && is_setup_first es
-
--- each client's commands are made once and in order, those of the set-up before all others, and workers make accepted
--- steps alone
-pub record Serves (s : Script) (history : List Entry) : Type 0 where
-  pub lists : (n : ℕ) → commands_of (Client n) history ≡ list_of s n
-  pub setup : IsTrue (is_setup_first history)
-  pub others : IsTrue (list_all is_served history)
-
--- The same as far as it goes: the first commands of each client, and no other client makes one unless the set-up is whole.
-pub record ServesInPart (s : Script) (history : List Entry) : Type 0 where
-  pub lists : (n : ℕ) → IsPrefix (commands_of (Client n) history) (list_of s n)
-  pub setup_whole : IsTrue (list_any is_of_later history) → commands_of (Client 0) history ≡ s.setup
-  pub setup : IsTrue (is_setup_first history)
-  pub others : IsTrue (list_all is_served history)
 
 -- the first entries of the run of the commands
 pub record IsFront (g : HostImage) (cs : List Made) (budget : ℕ) (history : List Entry) : Type 0 where

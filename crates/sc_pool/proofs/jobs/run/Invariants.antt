@@ -1,4 +1,4 @@
-use Rattle.sc_pool.specs.Pools.{planned}
+use Rattle.sc_pool.specs.Plans.{planned}
 use Rattle.sc_pool.proofs.jobs.run.Given as goal
 
 abbrev pub ghosts-run_planned : goal.ghosts-run_planned

@@ -1,0 +1,19 @@
+use Rattle.std.proofs.Common.{[], arith}
+use Rattle.sc_pool.proofs.SetUpLemmas.{ran_cut, ran_nothing, ran_script, steps_after}
+use Rattle.sc_pool.proofs.jobs.run_jobs.Goals as goal
+
+pub returns-then-len-ge-MOST_CLIENTS : goal.returns-then-len-ge-MOST_CLIENTS
+returns-then-len-ge-MOST_CLIENTS g c = ran_nothing _ _ _ c.requires.within
+
+pub run-requires-clause-within : goal.run-requires-clause-within
+run-requires-clause-within g c =
+    let m = c.in-Ok.ensures in
+    let same = steps_after c.args.script.setup [] (g.H.SharedHost.seen c.args.host) (g.H.SharedHost.seen c.set_up.new.host) m.fresh
+    c.requires.no_step.setup m.whole m.makes.entries in
+    omega (arith, c.requires.within, same)
+
+pub returns-in-Ok : goal.returns-in-Ok
+returns-in-Ok g c = ran_script c.args.script c.args.budget _ _ _ _ c.in-Ok.ensures c.run.ensures
+
+pub returns-in-Err : goal.returns-in-Err
+returns-in-Err g c = ran_cut c.args.script c.args.budget _ _ c.in-Err.fault c.requires.no_step c.requires.within c.in-Err.ensures

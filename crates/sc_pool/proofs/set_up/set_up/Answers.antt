@@ -1,0 +1,24 @@
+use Rattle.std.proofs.Common.{◌≡◌, List, ◌∷◌, subst, rules}
+use Rattle.std.specs.Vec.Iter.{into_iter_items}
+use Rattle.std.proofs.lemmas.Result.{err_from_is_err_and}
+use Rattle.sc_types.specs.declared.command.Command.{Command}
+use Rattle.sc_pool.specs.SetUps.{MakesPart}
+use Rattle.sc_pool.proofs.SetUpLemmas.{cut_set_up, more_set_up, nothing_set_up}
+use Rattle.sc_pool.proofs.set_up.set_up.Goals as goal
+
+pub loop-command-init : goal.loop-command-init
+loop-command-init g c =
+    let seen = g.H.SharedHost.seen c.args.host.now in
+    let all : c.args.commands ≡ into_iter_items c.into_iter-command-iterator.result = search rules in
+    subst (λ (xs : List Command). MakesPart c.args.commands xs seen seen) all (nothing_set_up c.args.commands seen)
+
+pub loop-command-preserved : goal.loop-command-preserved
+loop-command-preserved g c =
+    let seen = g.H.SharedHost.seen in
+    let first = c.in-Some.command in
+    let rest = into_iter_items c.next.new.self in
+    let here : into_iter_items c.loop-command.command-iterator ≡ first ∷ rest = c.in-Some.ensures.steps.0 in
+    more_set_up c.args.commands first rest (seen c.args.host.now) (seen c.loop-command.host) (seen c.answer.new.self)
+    (subst (λ (xs : List Command). MakesPart c.args.commands xs (seen c.args.host.now) (seen c.loop-command.host)) here
+    c.loop-command.invariant)
+    c.in_ok-answer.ensures.ok c.in_ok-answer.ensures.goes_on
