@@ -28,13 +28,18 @@ impl Progress {
         let Ok(now) = Instant::now(rt) else {
             return;
         };
-        match self.due {
-            None => self.due = now.checked_add(Duration::from_secs(2)),
-            Some(due) if due <= now => {
-                self.due = now.checked_add(Duration::from_secs(1));
-                let _ = eprintln!(rt; "charthost: {} commands accepted so far", self.commands());
-            }
-            Some(_) => {}
+        if self.due.is_none() {
+            self.due = now.checked_add(Duration::from_secs(2));
+        } else if self.is_due(now) {
+            self.due = now.checked_add(Duration::from_secs(1));
+            let _ = eprintln!(rt; "charthost: {} commands accepted so far", self.commands());
+        }
+    }
+
+    fn is_due(&self, now: Instant) -> bool {
+        match &self.due {
+            Some(due) => *due <= now,
+            None => false,
         }
     }
 
