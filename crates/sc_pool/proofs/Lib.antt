@@ -2,3 +2,4 @@ pub mod ServingLemmas
 mod ClientLemmas
 mod PoolLemmas
 mod SetUpLemmas
+mod BookLemmas
