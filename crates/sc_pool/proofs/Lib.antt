@@ -2,3 +2,5 @@ pub mod ServingLemmas
 mod ClientLemmas
 mod PoolLemmas
 mod SetUpLemmas
+mod BookLemmas
+mod Crossing

@@ -1,8 +1,7 @@
 -- The set-up of a script, and that it is served with what its clients and the workers make then.
-use Rattle.std.proofs.Common.{◌≡◌, inl, inr, ℕ, zero, suc, ◌+◌, ◌<◌, ◌≤◌, ◌==◌, ◌&&◌, ◌||◌, Bool, true, false, not, IsTrue, Option, None, Some, List, [], ◌∷◌, ◌++◌, length, map, append_assoc, append-nil, length-append, refl, sym, ap, ◌∙◌, subst, arith, rules}
+use Rattle.std.proofs.Common.{◌≡◌, inl, inr, ℕ, zero, suc, ◌≤◌, ◌==◌, ◌&&◌, ◌||◌, Bool, true, false, not, IsTrue, Option, None, Some, List, [], ◌∷◌, ◌++◌, length, append_assoc, append-nil, length-append, refl, sym, ap, ◌∙◌, subst, arith}
 use Rattle.std.specs.List.{list_all, list_any, AllByRecursion}
 use Rattle.std.proofs.lemmas.Bool.Decides.{nat_tests}
-use Rattle.sc_dev.specs.Causes.{Rose}
 use Rattle.sc_book.specs.Books.{opening}
 use Rattle.sc_book.specs.declared.doubt.Doubt.{Doubt}
 use Rattle.sc_book.specs.declared.fault.CallFault.{CallFault}
@@ -19,12 +18,12 @@ use Rattle.sc_core.specs.Accepted.{accepted_steps, is_accepted}
 use Rattle.sc_core.specs.Commands.{answer}
 use Rattle.sc_core.specs.Histories.{replay}
 use Rattle.sc_pool.specs.Plans.{ComesNext, Finished, IsPlaced, planned, script_of}
-use Rattle.sc_pool.specs.Pools.{CameNext, IsNext, IsNextOf, IsShown, Ran, rank, rank_of}
+use Rattle.sc_pool.specs.Pools.{CameNext, IsNext, IsNextOf, IsShown, Ran, rank_of}
 use Rattle.sc_pool.specs.Serving.{IsPrefix, Serves, ServesInPart, commands_of, is_later, is_of, is_of_later, is_served, is_setup, is_setup_first, list_of, served_by}
 use Rattle.sc_pool.specs.SetUps.{FailsIn, IsSetUpBy, MakesPart, commands_in, with_entries}
 use Rattle.sc_pool.specs.Sharing.{Adds, Fails, GoesOn, IsDoubted, IsWhy, Seen}
-use Rattle.sc_pool.proofs.PoolLemmas.{goes_first, goes_then, is_true, rose_sooner, shown_now, some_not_none, true_is}
-use Rattle.sc_pool.proofs.ServingLemmas.{all_served-append, all_served-more, commands_of-append, no_step, steps-append, steps-none, with_first}
+use Rattle.sc_pool.proofs.PoolLemmas.{goes_first, goes_then, is_true, rose_sooner, some_not_none, true_is}
+use Rattle.sc_pool.proofs.ServingLemmas.{all_served-append, commands_of-append, no_step, steps-append, steps-none, with_first}
 
 -- ---- entries of client 0
 

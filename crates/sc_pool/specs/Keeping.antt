@@ -1,5 +1,5 @@
 -- What a pool keeps behind its lock. Only private clauses cite these definitions.
-use Rattle.std.specs.Prelude.{ℕ, ◌+◌, ◌≡◌, ◌<◌, ◌≤◌, ◌⊎◌, is_some, Bool, true, false, IsTrue, Option, None, Some, List, [], ◌∷◌, ◌++◌, length, slice_get}
+use Rattle.std.specs.Prelude.{ℕ, ◌+◌, ◌≡◌, ◌<◌, ◌≤◌, ◌⊎◌, is_some, Bool, true, false, IsTrue, Option, None, Some, List, [], ◌∷◌, ◌++◌, slice_get}
 use Rattle.std.specs.List.{list_all, AllByRecursion}
 use Rattle.sc_book.specs.declared.doubt.Doubt.{Doubt}
 use Rattle.sc_book.specs.declared.fault.CallFault.{CallFault}

@@ -5,3 +5,4 @@ pub mod Pools
 pub mod Plans
 pub mod Keeping
 pub mod SetUps
+pub mod Books

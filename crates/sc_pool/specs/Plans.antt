@@ -1,5 +1,5 @@
 -- What the clients and workers of a pool are to make, and what they leave. Only private clauses cite these definitions.
-use Rattle.std.specs.Prelude.{ℕ, ◌+◌, ◌≡◌, ◌≤◌, true, false, IsTrue, Option, None, Some, unwrap_or, List, [], ◌∷◌, ◌++◌, length, slice_get}
+use Rattle.std.specs.Prelude.{ℕ, ◌+◌, ◌≡◌, ◌≤◌, true, false, IsTrue, Option, None, unwrap_or, List, [], ◌∷◌, ◌++◌, length, slice_get}
 use Rattle.std.specs.List.{list_all, AllByRecursion}
 use Rattle.sc_book.specs.Books.{opening}
 use Rattle.sc_book.specs.declared.doubt.Doubt.{Doubt}

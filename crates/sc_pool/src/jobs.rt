@@ -1,4 +1,5 @@
 ghost use Rattle.std.specs.Prelude.{◌≡◌, ◌-◌, ◌≤◌, ◌<◌, ◌^◌, false, List, Some, IfOk, length};
+ghost use Rattle.sc_pool.specs.Books.{seen_of};
 ghost use Rattle.sc_pool.specs.Keeping.{StartsAt, clients_from};
 ghost use Rattle.sc_pool.specs.Plans.{Finished, HaveNoStep, planned};
 ghost use Rattle.sc_pool.specs.Pools.{Ran};
@@ -9,10 +10,10 @@ ghost use Rattle.sc_types.specs.declared.command.Command.{Command};
 use crate::client::{Client, CommandList};
 use crate::locked::{Locked, Look, Plan, Round};
 use crate::set_up::set_up;
-use crate::shared_host::SharedHost;
 use sc_base::NoMemory;
-use sc_book::CallFault;
-use sc_dev::Gate;
+use sc_book::{Book, CallFault};
+use sc_dev::{Disk, Gate};
+use sc_law::Engine;
 use sc_script::Script;
 use sc_types::{Command, Sequence};
 use std::alloc::Global;
@@ -75,10 +76,10 @@ fn clients_of(
 }
 
 /// Makes the commands of a client one after another, to the end of its list or to a fault.
-fn serve<H: SharedHost + Drop, J: Plan, R: Wait>(
+fn serve<E: Engine, D: Disk, J: Plan, R: Wait>(
     rt: &R,
     alloc: Global,
-    locked: &Mutex<Locked<H, J>>,
+    locked: &Mutex<Locked<'_, E, D, J>>,
     place: usize,
 ) {
     for _ in rt.forever() {
@@ -90,18 +91,18 @@ fn serve<H: SharedHost + Drop, J: Plan, R: Wait>(
 }
 
 /// One look of a worker: it claims a session, computes its turn outside the lock, and commits it.
-fn look<H: SharedHost + Drop, J: Plan, R: Wait, G: Gate>(
+fn look<E: Engine, D: Disk, J: Plan, R: Wait, G: Gate>(
     rt: &R,
     alloc: Global,
-    engine: &H::Engine,
+    engine: &E,
     gate: &G,
-    locked: &Mutex<Locked<H, J>>,
+    locked: &Mutex<Locked<'_, E, D, J>>,
 ) -> Round {
     let look = locked.lock(rt).claim(alloc);
     match look {
         Look::Claimed(ticket) => {
-            gate.inside(H::place_of(&ticket));
-            let turned = H::work(alloc, engine, &ticket);
+            gate.inside(ticket.place() as u64);
+            let turned = ticket.work(alloc, engine);
             locked.lock(rt).commit(alloc, ticket, turned)
         }
         Look::Nothing => Round::Nothing,
@@ -110,12 +111,12 @@ fn look<H: SharedHost + Drop, J: Plan, R: Wait, G: Gate>(
 }
 
 /// Steps sessions until it finds none to step for a while, or meets a fault.
-fn help<H: SharedHost + Drop, J: Plan, R: Wait, G: Gate>(
+fn help<E: Engine, D: Disk, J: Plan, R: Wait, G: Gate>(
     rt: &R,
     alloc: Global,
-    engine: &H::Engine,
+    engine: &E,
     gate: &G,
-    locked: &Mutex<Locked<H, J>>,
+    locked: &Mutex<Locked<'_, E, D, J>>,
 ) {
     let mut idle = 0u32;
     for _ in rt.forever() {
@@ -128,12 +129,12 @@ fn help<H: SharedHost + Drop, J: Plan, R: Wait, G: Gate>(
 }
 
 /// What the job at a place does.
-fn work<H: SharedHost + Drop, J: Plan, R: Wait, G: Gate>(
+fn work<E: Engine, D: Disk, J: Plan, R: Wait, G: Gate>(
     rt: &R,
     alloc: Global,
-    engine: &H::Engine,
+    engine: &E,
     gate: &G,
-    locked: &Mutex<Locked<H, J>>,
+    locked: &Mutex<Locked<'_, E, D, J>>,
     job: Job,
 ) {
     match job {
@@ -143,29 +144,24 @@ fn work<H: SharedHost + Drop, J: Plan, R: Wait, G: Gate>(
 }
 
 /// Runs the jobs, and then makes what is left of them.
-fn run_locked<
-    H: SharedHost + Drop + Send,
-    J: Plan + Send + Sync,
-    R: Threads + Wait + Sync,
-    G: Gate,
->(
+fn run_locked<'e, E: Engine, D: Disk, J: Plan + Send + Sync, R: Threads + Wait + Sync, G: Gate>(
     rt: &R,
     alloc: Global,
-    engine: &H::Engine,
+    engine: &E,
     gate: &G,
     mut jobs: Vec<Job>,
-    locked: Locked<H, J>,
-) -> (H, Option<CallFault>)
-    ensures { Finished J.plan (H.seen result.0) result.1 }
+    locked: Locked<'e, E, D, J>,
+) -> (Book<'e, E, D>, Option<CallFault>)
+    ensures { Finished J.plan (seen_of D.tells D.may_leave D.may_have_left D.moment D.faults D.identity result.0) result.1 }
 {
     let threads = jobs.len().max(1);
     let shared = Mutex::new(locked);
-    let book = &shared;
+    let lock = &shared;
     thread::for_each_mut(
         rt,
         jobs.as_mut_slice(),
         threads,
-        &|_, job: &mut Job| { work(rt, alloc, engine, gate, book, *job) },
+        &|_, job: &mut Job| { work(rt, alloc, engine, gate, lock, *job) },
     );
     let mut locked = shared.into_inner();
     locked.finish_clients(alloc);
@@ -174,89 +170,84 @@ fn run_locked<
 }
 
 /// The same, under a plan that the caller picks.
-fn run_planned<
-    H: SharedHost + Drop + Send,
-    J: Plan + Send + Sync,
-    R: Threads + Wait + Sync,
-    G: Gate,
->(
+fn run_planned<'e, E: Engine, D: Disk, J: Plan + Send + Sync, R: Threads + Wait + Sync, G: Gate>(
     rt: &R,
     alloc: Global,
-    host: H,
-    engine: &H::Engine,
+    book: Book<'e, E, D>,
+    engine: &E,
     scripts: Sequence<Sequence<Command>>,
     workers: u32,
     budget: u64,
     gate: &G,
-) -> (H, Option<CallFault>)
+) -> (Book<'e, E, D>, Option<CallFault>)
     requires few { length scripts < 2 ^ 32 - 1 }
     requires no_step { HaveNoStep scripts }
     requires scripts { scripts ≡ J.plan.scripts }
-    requires start { StartsAt J.plan.start (H.seen host) }
+    requires start { StartsAt J.plan.start (seen_of D.tells D.may_leave D.may_have_left D.moment D.faults D.identity book) }
     requires budget { budget ≡ J.plan.budget }
-    requires within { accepted_steps (H.seen host).entries ≤ budget }
-    ensures { Finished J.plan (H.seen result.0) result.1 }
+    requires within { accepted_steps (seen_of D.tells D.may_leave D.may_have_left D.moment D.faults D.identity book).entries ≤ budget }
+    ensures { Finished J.plan (seen_of D.tells D.may_leave D.may_have_left D.moment D.faults D.identity result.0) result.1 }
 {
     let Ok(jobs) = jobs_of(alloc, scripts.len(), workers) else {
-        return (host, Some(CallFault::NoMemory));
+        return (book, Some(CallFault::NoMemory));
     };
     match clients_of(alloc, scripts) {
         Ok(clients) => {
-            let locked: Locked<H, J> = Locked::new(host, clients, budget);
+            let locked: Locked<'e, E, D, J> = Locked::new(book, clients, budget);
             run_locked(rt, alloc, engine, gate, jobs, locked)
         }
-        Err(NoMemory) => (host, Some(CallFault::NoMemory)),
+        Err(NoMemory) => (book, Some(CallFault::NoMemory)),
     }
 }
 
 /// Makes the commands of all clients, each in the order of its list, and lets workers step what is ready, with a thread for
-/// each client and each worker. Answers the host, and the worst fault that a job met.
-fn run<H: SharedHost + Drop + Send, R: Threads + Wait + Sync, G: Gate>(
+/// each client and each worker. Answers the book, and the worst fault that a job met.
+fn run<'e, E: Engine, D: Disk, R: Threads + Wait + Sync, G: Gate>(
     rt: &R,
     alloc: Global,
-    host: H,
-    engine: &H::Engine,
+    book: Book<'e, E, D>,
+    engine: &E,
     scripts: Sequence<Sequence<Command>>,
     workers: u32,
     budget: u64,
     gate: &G,
-) -> (H, Option<CallFault>)
+) -> (Book<'e, E, D>, Option<CallFault>)
     requires few { length scripts < 2 ^ 32 - 1 }
     requires no_step { HaveNoStep scripts }
-    requires within { accepted_steps (H.seen host).entries ≤ budget }
-    ensures { Finished (planned scripts budget (H.seen host)) (H.seen result.0) result.1 }
+    requires within { accepted_steps (seen_of D.tells D.may_leave D.may_have_left D.moment D.faults D.identity book).entries ≤ budget }
+    ensures { Finished (planned scripts budget (seen_of D.tells D.may_leave D.may_have_left D.moment D.faults D.identity book.entry)) (seen_of D.tells D.may_leave D.may_have_left D.moment D.faults D.identity result.0) result.1 }
 {
-    run_planned::<H, Brand, R, G>(rt, alloc, host, engine, scripts, workers, budget, gate)
+    run_planned::<E, D, Brand, R, G>(rt, alloc, book, engine, scripts, workers, budget, gate)
 }
 
-/// Makes the commands of a script on a host that is shared. Those of the set-up come first, without steps, as client 0; a
+/// Makes the commands of a script on a book that all threads share. Those of the set-up come first, without steps, as client 0; a
 /// fault there ends it all. Then each client makes its commands in the order of its list, and workers step what is ready,
 /// with a thread for each client and each worker.
 ///
-/// Answers the host, and the worst fault that a job met: want of memory before a fault of the disk, and that before a full
+/// Answers the book, and the worst fault that a job met: want of memory before a fault of the disk, and that before a full
 /// journal. A job that meets a fault ends, and the others go on.
-pub fn run_jobs<H: SharedHost + Drop + Send, R: Threads + Wait + Sync, G: Gate>(
+pub fn run_jobs<'e, E: Engine, D: Disk, R: Threads + Wait + Sync, G: Gate>(
     rt: &R,
     alloc: Global,
-    host: H,
-    engine: &H::Engine,
+    book: Book<'e, E, D>,
+    engine: &E,
     script: Script,
     workers: u32,
     budget: u64,
     gate: &G,
-) -> (H, Option<CallFault>)
+) -> (Book<'e, E, D>, Option<CallFault>)
     requires no_step { HasNoStep script }
-    requires within { accepted_steps (H.seen host).entries ≤ budget }
-    ensures { Ran script budget (H.seen host) (H.seen result.0) result.1 }
+    requires within { accepted_steps (seen_of D.tells D.may_leave D.may_have_left D.moment D.faults D.identity book).entries ≤ budget }
+    ensures { Ran script budget (seen_of D.tells D.may_leave D.may_have_left D.moment D.faults D.identity book.entry) (seen_of D.tells D.may_leave D.may_have_left D.moment D.faults D.identity result.0) result.1 }
 {
-    let mut host = host;
+    let mut book = book;
     let Script { setup, clients } = script;
     // Their numbers are of 32 bits.
     if clients.len() >= MOST_CLIENTS {
-        return (host, Some(CallFault::NoMemory));
+        return (book, Some(CallFault::NoMemory));
     }
-    match set_up(alloc, &mut host, setup) {
-        Ok(()) => run(rt, alloc, host, engine, clients, workers, budget, gate),
-        Err(fault) => (host, Some(fault)),
+    match set_up(alloc, &mut book, setup) {
+        Ok(()) => run(rt, alloc, book, engine, clients, workers, budget, gate),
+        Err(fault) => (book, Some(fault)),
     }
 }

@@ -1,14 +1,16 @@
 ghost use Rattle.std.specs.Prelude.{◌≡◌, ◌≤◌, ◌<◌, None, Some, false, true, length, slice_get};
+ghost use Rattle.sc_pool.specs.Books.{seen_of};
 ghost use Rattle.sc_pool.specs.Clients.{AllMade, IsMade, KeepsMade, Rounds};
 ghost use Rattle.sc_pool.specs.Keeping.{Begins, IsSpent, IsWorst, Keeps, StartsAt, StepsOnce};
 ghost use Rattle.sc_pool.specs.Plans.{HaveNoStep};
 ghost use Rattle.sc_core.specs.Accepted.{accepted_steps};
 
+use crate::book::{answer, claim, commit, give_back, step_first};
 use crate::client::{Client, Taken, mark, take};
-use crate::shared_host::SharedHost;
 use sc_base::NoMemory;
-use sc_book::CallFault;
-use sc_law::Turned;
+use sc_book::{Book, CallFault, Ticket};
+use sc_dev::Disk;
+use sc_law::{Engine, Turned};
 use sc_types::{Sequence, Who};
 use std::alloc::Global;
 use std::marker::{Brand, Model, PhantomData};
@@ -45,19 +47,20 @@ pub(crate) enum Look<T> {
     Failed,
 }
 
-/// The shared host behind the lock, with what each client has still to make.
+/// The book behind the lock, with what each client has still to make.
 #[derive(Drop)]
-pub(crate) struct Locked<H: SharedHost + Drop, J: Plan> {
-    host: H,
+pub(crate) struct Locked<'e, E: Engine, D: Disk, J: Plan> {
+    book: Book<'e, E, D>,
     clients: Sequence<Client>,
     budget: u64,
     worst: Option<CallFault>,
     plan: PhantomData<J>,
 }
 
-impl<H: SharedHost + Drop, J: Plan> Model for Locked<H, J> {
+impl<'e, E: Engine, D: Disk, J: Plan> Model for Locked<'e, E, D, J> {
     ghost use Rattle.std.specs.Prelude.{◌≡◌};
     ghost use Rattle.std.specs.Coded.{codes};
+    ghost use Rattle.sc_pool.specs.Books.{seen_of};
     ghost use Rattle.sc_pool.specs.Keeping.{Keeps, Progress, progress_of};
     ghost use Rattle.sc_types.specs.contracts.command.Command as command_type;
     ghost use Rattle.sc_types.specs.contracts.history.Entry as entry_type;
@@ -66,9 +69,9 @@ impl<H: SharedHost + Drop, J: Plan> Model for Locked<H, J> {
 
     ghost coded = { Prim.hlevel (codes, command_type.the_row.coded, entry_type.the_row.coded) };
 
-    ghost view = { λ s. progress_of (H.seen s.host) s.clients s.worst };
+    ghost view = { λ s. progress_of (seen_of D.tells D.may_leave D.may_have_left D.moment D.faults D.identity s.book) s.clients s.worst };
 
-    ghost invariant = { λ s. Keeps J.plan (H.seen s.host) s.clients s.worst × (s.budget ≡ J.plan.budget) };
+    ghost invariant = { λ s. Keeps J.plan (seen_of D.tells D.may_leave D.may_have_left D.moment D.faults D.identity s.book) s.clients s.worst × (s.budget ≡ J.plan.budget) };
 }
 
 /// The worse of two faults: want of memory comes before a fault of the disk, and that before a full journal.
@@ -82,17 +85,21 @@ fn worse(noted: Option<CallFault>, fault: CallFault) -> CallFault
     }
 }
 
-impl<H: SharedHost + Drop, J: Plan> Locked<H, J> {
+impl<'e, E: Engine, D: Disk, J: Plan> Locked<'e, E, D, J> {
     /// Nothing is made yet.
-    pub(crate) fn new(host: H, clients: Sequence<Client>, budget: u64) -> Locked<H, J>
+    pub(crate) fn new(
+        book: Book<'e, E, D>,
+        clients: Sequence<Client>,
+        budget: u64,
+    ) -> Locked<'e, E, D, J>
         requires no_step { HaveNoStep J.plan.scripts }
-        requires start { StartsAt J.plan.start (H.seen host) }
+        requires start { StartsAt J.plan.start (seen_of D.tells D.may_leave D.may_have_left D.moment D.faults D.identity book) }
         requires clients { Begins J.plan clients }
         requires budget { budget ≡ J.plan.budget }
-        requires within { accepted_steps (H.seen host).entries ≤ budget }
+        requires within { accepted_steps (seen_of D.tells D.may_leave D.may_have_left D.moment D.faults D.identity book).entries ≤ budget }
     {
         Locked {
-            host,
+            book,
             clients,
             budget,
             worst: None,
@@ -106,7 +113,7 @@ impl<H: SharedHost + Drop, J: Plan> Locked<H, J> {
     {
         match take(&mut self.clients, place) {
             Taken::Next(number, command) => {
-                match self.host.answer(alloc, Who::Client(number), command) {
+                match answer(&mut self.book, alloc, Who::Client(number), command) {
                     Ok(()) => Round::Made,
                     Err(fault) => {
                         mark(&mut self.clients, place);
@@ -121,8 +128,8 @@ impl<H: SharedHost + Drop, J: Plan> Locked<H, J> {
     }
 
     /// Claims a session to step.
-    pub(crate) fn claim(&mut self, alloc: Global) -> Look<H::Ticket> {
-        match self.host.claim_next(alloc, self.budget) {
+    pub(crate) fn claim(&mut self, alloc: Global) -> Look<Ticket<E>> {
+        match claim(&mut self.book, alloc, self.budget) {
             Ok(Some(ticket)) => Look::Claimed(ticket),
             Ok(None) => Look::Nothing,
             Err(NoMemory) => {
@@ -136,25 +143,25 @@ impl<H: SharedHost + Drop, J: Plan> Locked<H, J> {
     pub(crate) fn commit(
         &mut self,
         alloc: Global,
-        ticket: H::Ticket,
+        ticket: Ticket<E>,
         turned: Result<Turned, NoMemory>,
     ) -> Round {
         match turned {
             Ok(turned) => self.commit_turned(alloc, ticket, turned),
             Err(NoMemory) => {
-                self.host.give_back(ticket);
+                give_back(&mut self.book, ticket);
                 self.worst = Some(CallFault::NoMemory);
                 Round::Failed
             }
         }
     }
 
-    fn commit_turned(&mut self, alloc: Global, ticket: H::Ticket, turned: Turned) -> Round {
-        if self.budget <= self.host.steps_made() {
-            self.host.give_back(ticket);
+    fn commit_turned(&mut self, alloc: Global, ticket: Ticket<E>, turned: Turned) -> Round {
+        if self.budget <= self.book.steps() {
+            give_back(&mut self.book, ticket);
             return Round::Nothing;
         }
-        match self.host.commit_step(alloc, ticket, turned) {
+        match commit(&mut self.book, alloc, ticket, turned) {
             Ok(true) => Round::Made,
             Ok(false) => Round::Nothing,
             Err(fault) => {
@@ -186,10 +193,10 @@ impl<H: SharedHost + Drop, J: Plan> Locked<H, J> {
         ensures clients { self.new.clients ≡ self.old.clients }
         ensures steps { StepsOnce J.plan.budget self.old self.new result }
     {
-        if self.host.steps_made() >= self.budget {
+        if self.book.steps() >= self.budget {
             return Round::Nothing;
         }
-        match self.host.step_first(alloc) {
+        match step_first(&mut self.book, alloc) {
             Ok(true) => Round::Made,
             Ok(false) => Round::Nothing,
             Err(fault) => {
@@ -210,14 +217,14 @@ impl<H: SharedHost + Drop, J: Plan> Locked<H, J> {
         while let Round::Made = self.step_once(alloc) {}
     }
 
-    /// The host, and the worst fault that was met.
-    pub(crate) fn into_parts(self) -> (H, Option<CallFault>)
-        ensures keeps { Keeps J.plan (H.seen result.0) self.clients self.worst }
-        ensures worst { result.1 ≡ self.worst }
-        ensures entries { (H.seen result.0).entries ≡ self.entries }
-        ensures ready { (H.seen result.0).ready ≡ self.ready }
+    /// The book, and the worst fault that was met.
+    pub(crate) fn into_parts(self) -> (Book<'e, E, D>, Option<CallFault>)
+        ensures keeps { Keeps J.plan (seen_of D.tells D.may_leave D.may_have_left D.moment D.faults D.identity result.0) self.entry.clients self.entry.worst }
+        ensures worst { result.1 ≡ self.entry.worst }
+        ensures entries { (seen_of D.tells D.may_leave D.may_have_left D.moment D.faults D.identity result.0).entries ≡ self.entry.entries }
+        ensures ready { (seen_of D.tells D.may_leave D.may_have_left D.moment D.faults D.identity result.0).ready ≡ self.entry.ready }
     {
-        let Locked { host, worst, .. } = self;
-        (host, worst)
+        let Locked { book, worst, .. } = self;
+        (book, worst)
     }
 }

@@ -1,22 +1,25 @@
 ghost use Rattle.std.specs.Prelude.{[], MatchResult};
+ghost use Rattle.sc_pool.specs.Books.{seen_of};
 ghost use Rattle.sc_pool.specs.SetUps.{FailsIn, MakesPart};
 
-use crate::shared_host::SharedHost;
-use sc_book::CallFault;
+use crate::book::answer;
+use sc_book::{Book, CallFault};
+use sc_dev::Disk;
+use sc_law::Engine;
 use sc_types::{Command, Sequence, Who};
 use std::alloc::Global;
 
 /// Makes the commands of a set-up one after another, as client 0, to the end or to the first fault.
-pub(crate) fn set_up<H: SharedHost>(
+pub(crate) fn set_up<E: Engine, D: Disk>(
     alloc: Global,
-    host: &mut H,
+    book: &mut Book<'_, E, D>,
     commands: Sequence<Command>,
 ) -> Result<(), CallFault>
-    ensures { MatchResult result (λ _. MakesPart commands [] (H.seen host.old) (H.seen host.new))
-        (λ fault. FailsIn commands fault (H.seen host.old) (H.seen host.new)) }
+    ensures { MatchResult result (λ _. MakesPart commands [] (seen_of D.tells D.may_leave D.may_have_left D.moment D.faults D.identity book.old) (seen_of D.tells D.may_leave D.may_have_left D.moment D.faults D.identity book.new))
+        (λ fault. FailsIn commands fault (seen_of D.tells D.may_leave D.may_have_left D.moment D.faults D.identity book.old) (seen_of D.tells D.may_leave D.may_have_left D.moment D.faults D.identity book.new)) }
 {
     for command in commands.into_vec() {
-        host.answer(alloc, Who::Client(0), command)?;
+        answer(book, alloc, Who::Client(0), command)?;
     }
     Ok(())
 }

@@ -1,5 +1,6 @@
 use Rattle.sc_pool.specs.Plans.{planned}
+use Rattle.sc_pool.specs.Books.{seen_of}
 use Rattle.sc_pool.proofs.jobs.run.Given as goal
 
 abbrev pub ghosts-run_planned : goal.ghosts-run_planned
-ghosts-run_planned g a = record { plan = planned a.scripts a.budget (g.H.SharedHost.seen a.host) }
+ghosts-run_planned g a = record { plan = planned a.scripts a.budget ((seen_of g.D.Disk.tells g.D.Disk.may_leave g.D.Disk.may_have_left g.D.Disk.moment g.D.Disk.faults g.D.Disk.identity) a.book) }

@@ -1,13 +1,14 @@
 use Rattle.std.proofs.Common.{Bool, subst, arith}
+use Rattle.sc_pool.specs.Books.{seen_of}
 use Rattle.sc_pool.specs.Sharing.{Steps}
 use Rattle.sc_pool.proofs.PoolLemmas.{worker_failed, worker_made}
 use Rattle.sc_pool.proofs.locked.Locked.commit_turned.Goals as goal
 
 pub invariant_of-self-in-Ok-true : goal.invariant_of-self-in-Ok-true
 invariant_of-self-in-Ok-true g c =
-    let P : Bool → Type 0 = λ b. Steps b (g.H.SharedHost.seen c.self.inside.host) (g.H.SharedHost.seen c.commit_step.new.self) in (
+    let P : Bool → Type 0 = λ b. Steps b ((seen_of g.D.Disk.tells g.D.Disk.may_leave g.D.Disk.may_have_left g.D.Disk.moment g.D.Disk.faults g.D.Disk.identity) c.self.inside.book) ((seen_of g.D.Disk.tells g.D.Disk.may_leave g.D.Disk.may_have_left g.D.Disk.moment g.D.Disk.faults g.D.Disk.identity) c.commit.new.book) in (
       worker_made _ _ _ _ _ c.self.invariant.0 (subst P c.in-Ok-true.field-0-test c.in-Ok-true.ensures.steps) c.in-Ok-true.ensures.goes_on
-          (omega (arith, c.if-self-steps_made.false, c.steps_made.ensures, c.self.invariant.1)),
+          (omega (arith, c.if-self-steps.false, c.steps.ensures, c.self.invariant.1)),
       c.self.invariant.1,
     )
 
