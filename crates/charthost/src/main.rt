@@ -11,6 +11,7 @@ mod progress;
 use counted::Counted;
 use file_disk::FileDisk;
 use progress::Progress;
+use sc_dev::OpenGate;
 use sc_top::Status;
 use sc_types::NoMemory;
 use std::process::ExitCode;
@@ -25,11 +26,13 @@ fn main(rt: HostRuntime) -> ExitCode {
     let mut output = Counted::new(rt.stdout());
     let mut disk = FileDisk::new(&rt, Progress::new(is_helped));
     let status = sc_top::top(
+        &rt,
         rt.alloc(),
         words.as_slice(),
         &mut input,
         &mut output,
         &mut disk,
+        &OpenGate,
     );
     help::ended(&rt, is_helped, status)
 }

@@ -29,9 +29,9 @@ use Rattle.sc_types.specs.declared.host.HostImage.{HostImage}
 use Rattle.sc_top.specs.Journals.{DiskKnown, HasNoRoomFor, IsDoubtful, IsEndOf, IsStored, IsWithNext, IsWithOrWithout, Opening, count_after, disk_known, host_after}
 use Rattle.sc_top.specs.Journals as journals
 use Rattle.sc_top.specs.Journals.{FailsToOpen}
-use Rattle.sc_top.specs.Promise.{Account, Ends, LeftBy, Runs, Shows, full, failed, left_by, quiet, ran, shown, spent}
+use Rattle.sc_top.specs.Promise.{Ends, Shows, full, failed, quiet, shown, spent}
 use Rattle.sc_report.specs.Report.{report}
-use Rattle.sc_top.specs.Sayings.{IsTold, SaysFault, bad, damaged, disk}
+use Rattle.sc_top.specs.Sayings.{SaysFault, bad, damaged, disk}
 use Rattle.sc_top.specs.declared.status.Status.{Status}
 use Rattle.sc_top.specs.declared.status.Status.TheVariants as done
 use Rattle.sc_book.specs.Openings.{HasFirstBad, IsDamagedAt}
@@ -81,7 +81,7 @@ module _ {D : Type 0} (tells : Type 0) (reads : D → DiskOf) (leaves : D → Di
   Known old new = disk_known tells reads leaves faults old new
 
   -- an image of a journal in which nothing is in doubt, or one body
-  image_stands : (past : List Command) (b : BookOf D) → Is past b → tells → (doubt : Option (List ℕ))
+  pub image_stands : (past : List Command) (b : BookOf D) → Is past b → tells → (doubt : Option (List ℕ))
       → b.journal.doubt ≡ doubt → (c : DiskOf) → leaves b.journal.disk c
       → StandsFor c (count_after past b.history) (host_after past b.history)
       ⊎ ((body : List ℕ) × (doubt ≡ Some body) × ((x : Command) → Spells body x
@@ -128,17 +128,17 @@ module _ {D : Type 0} (tells : Type 0) (reads : D → DiskOf) (leaves : D → Di
         (image_stands past b is told b.journal.doubt refl c may)
 
   -- so it stands for that, with or without a command in doubt
-  pub doubtful_stored : (old : D) (past : List Command) (b : BookOf D) (script : Script) (budget : ℕ) → Is past b → b.doubts ≡ []
-      → tells → IsDoubtful (Known old b.journal.disk) past script budget b.history
-  doubtful_stored old past b script budget is none told =
+  pub doubtful_stored : (old : D) (past : List Command) (b : BookOf D) (script : Script) (workers budget : ℕ) → Is past b
+      → b.doubts ≡ [] → tells → IsDoubtful (Known old b.journal.disk) past script workers budget b.history
+  doubtful_stored old past b script workers budget is none told =
       let all = stored_of old past b is none told in
       record { reads = inl all.reads; stops = λ c may. inl (all.stops c may) }
 
   -- where the next command of a run is in doubt, with or without that
-  pub doubtful_of : (old : D) (past : List Command) (b : BookOf D) (script : Script) (budget : ℕ) (d : Doubt) (e : Entry)
-      → Is past b → b.doubts ≡ d ∷ [] → d.command ≡ e.command → ComesNext past script budget b.history e → tells
-      → IsDoubtful (Known old b.journal.disk) past script budget b.history
-  doubtful_of old past b script budget d e is one same comes told = record {
+  pub doubtful_of : (old : D) (past : List Command) (b : BookOf D) (script : Script) (workers budget : ℕ) (d : Doubt)
+      (e : Entry) → Is past b → b.doubts ≡ d ∷ [] → d.command ≡ e.command → ComesNext past script workers budget b.history e
+      → tells → IsDoubtful (Known old b.journal.disk) past script workers budget b.history
+  doubtful_of old past b script workers budget d e is one same comes told = record {
     reads = each (reads b.journal.disk) (standing b.journal.disk);
     stops = each;
   } where
@@ -150,7 +150,7 @@ module _ {D : Type 0} (tells : Type 0) (reads : D → DiskOf) (leaves : D → Di
         (Contains-push_cases [] d last.doubt there) in
         subst (Spells body) (sym (ap (λ (x : Doubt). x.command) is_it) ∙ same) last.spells
 
-    each : (c : DiskOf) → leaves b.journal.disk c → IsWithOrWithout past script budget b.history c
+    each : (c : DiskOf) → leaves b.journal.disk c → IsWithOrWithout past script workers budget b.history c
     each c may = pick (λ taken. inl taken)
         (λ more. inr (record {
           entry = e;
@@ -158,7 +158,7 @@ module _ {D : Type 0} (tells : Type 0) (reads : D → DiskOf) (leaves : D → Di
           stands = more.2 e.command (spells more.0 more.1) comes.accepted;
         })) (image_stands past b is told b.journal.doubt refl c may)
 
-  -- ---- a run that has ended
+  -- ---- the run of one thread that has ended
 
   module _ (start : D) (old : BookOf D) (o : IsOpened tells leaves left moment old) (s : Script) (budget : ℕ)
       (steps : HasNoStep s) (run : RunOf D) (on : GoesOn tells leaves left moment faults identity old run.book)
@@ -186,7 +186,7 @@ module _ {D : Type 0} (tells : Type 0) (reads : D → DiskOf) (leaves : D → Di
         (λ rest h. subst (λ x. IsRun x (in_turn s) budget (added ++ rest)) first_host (r.runs rest h))
 
     promise_by : (added : List Entry) (g : HostImage) → run.book.history ≡ old.history ++ added
-        → Reaches first (in_turn s) added g → IsHistoryOf o.past s budget run.book.history
+        → Reaches first (in_turn s) added g → IsHistoryOf o.past s 0 budget run.book.history
     promise_by added g is r =
         history_of_front o.past s budget run.book.history steps
         (subst (IsFront (opening o.past) (in_turn s) budget) (sym (all_added added is)) (front_by added g r))
@@ -197,10 +197,11 @@ module _ {D : Type 0} (tells : Type 0) (reads : D → DiskOf) (leaves : D → Di
 
     comes_by : (added : List Entry) → run.book.history ≡ old.history ++ added → (faced : Faces first run (in_turn s) added)
         → is_accepted (answer run.book.host faced.entry.command).reply ≡ true
-        → ComesNext o.past s budget run.book.history faced.entry
+        → ComesNext o.past s 0 budget run.book.history faced.entry
     comes_by added is faced taken = record {
-      run = subst (λ (h : List Entry). IsFront (opening o.past) (in_turn s) budget (h ++ faced.entry ∷ []))
+      run = λ _. subst (λ (h : List Entry). IsFront (opening o.past) (in_turn s) budget (h ++ faced.entry ∷ []))
           (sym (all_added added is)) (front_by (added ++ faced.entry ∷ []) _ faced.reaches);
+      next = λ some. absurd (some refl);
       accepted = accepted_by faced.entry.command taken;
     }
 
@@ -210,16 +211,16 @@ module _ {D : Type 0} (tells : Type 0) (reads : D → DiskOf) (leaves : D → Di
 
     doubtful_by : (added : List Entry) → run.book.history ≡ old.history ++ added → (faced : Faces first run (in_turn s) added)
         → (run.book.doubts ≡ old.doubts) ⊎ IsDoubtOf old run.book faced.entry.command → tells
-        → IsDoubtful K o.past s budget run.book.history
+        → IsDoubtful K o.past s 0 budget run.book.history
     doubtful_by added is faced (inl same) told =
-        doubtful_stored start o.past run.book s budget is_last (same ∙ o.doubts) told
+        doubtful_stored start o.past run.book s 0 budget is_last (same ∙ o.doubts) told
     doubtful_by added is faced (inr one) told =
-        doubtful_of start o.past run.book s budget one.doubt faced.entry is_last
+        doubtful_of start o.past run.book s 0 budget one.doubt faced.entry is_last
         (one.doubts ∙ ap (λ (ds : List Doubt). ds ++ one.doubt ∷ []) o.doubts) one.command
         (comes_by added is faced one.accepted) told
 
     -- the run came to its end
-    whole_by : Goes first run (in_turn s) [] → HasStepped run → IsWholeHistoryOf o.past s budget run.book.history
+    whole_by : Goes first run (in_turn s) [] → HasStepped run → IsWholeHistoryOf o.past s 0 budget run.book.history
     whole_by goes stepped =
         let ends : IsRun old.host (in_turn s) budget (goes.added ++ []) = goes.runs [] (stepped []) in
         let added = all_added goes.added goes.history in
@@ -228,14 +229,14 @@ module _ {D : Type 0} (tells : Type 0) (reads : D → DiskOf) (leaves : D → Di
         (subst (λ g. IsRun g (in_turn s) budget (goes.added ++ [])) first_host ends))
 
     ends_whole : Goes first run (in_turn s) [] → HasStepped run → (r : Option (List ℕ)) → ready run.book.host ≡ r
-        → (word : End) → end_by None (is_some r) ≡ Some word → Ends K o.past s budget run.book.history word
+        → (word : End) → end_by None (is_some r) ≡ Some word → Ends K o.past s 0 budget run.book.history word
     ends_whole goes stepped None none word is =
         let quiet_end : end.Quiet ≡ word = cc in
-        subst (Ends K o.past s budget run.book.history) quiet_end
+        subst (Ends K o.past s 0 budget run.book.history) quiet_end
         (quiet (whole_by goes stepped) (sym (ap ready is_last.host) ∙ none) (stored_by goes.doubts))
     ends_whole goes stepped (Some name) some word is =
         let spent_end : end.Budget ≡ word = cc in
-        subst (Ends K o.past s budget run.book.history) spent_end
+        subst (Ends K o.past s 0 budget run.book.history) spent_end
         (spent (whole_by goes stepped) (λ none. is_none (sym some ∙ ap ready is_last.host ∙ none)) (stored_by goes.doubts)) where
           is_none : Some name ≡ None → ⊥
           is_none e = absurd (cc)
@@ -258,20 +259,20 @@ module _ {D : Type 0} (tells : Type 0) (reads : D → DiskOf) (leaves : D → Di
         }
 
     ends_stopped : (fault : CallFault) → Stops tells leaves left moment faults fault first run (in_turn s) → (word : End)
-        → end_by (Some fault) (is_some (ready run.book.host)) ≡ Some word → Ends K o.past s budget run.book.history word
+        → end_by (Some fault) (is_some (ready run.book.host)) ≡ Some word → Ends K o.past s 0 budget run.book.history word
     ends_stopped fault x word is = by fault x.why is where
-      promise : IsHistoryOf o.past s budget run.book.history
+      promise : IsHistoryOf o.past s 0 budget run.book.history
       promise = promise_by x.added run.book.host x.history x.reaches
 
       by : (f : CallFault) → Stopped tells leaves left moment faults first run (in_turn s) x.added f
-          → end_by (Some f) (is_some (ready run.book.host)) ≡ Some word → Ends K o.past s budget run.book.history word
+          → end_by (Some f) (is_some (ready run.book.host)) ≡ Some word → Ends K o.past s 0 budget run.book.history word
       by call.Disk (unanswered _ faced why) e =
           let disk_end : end.Disk ≡ word = cc in
-          subst (Ends K o.past s budget run.book.history) disk_end
+          subst (Ends K o.past s 0 budget run.book.history) disk_end
           (failed promise (omega (arith, earlier, why.0)) (doubtful_by x.added x.history faced why.1))
       by call.Full (unanswered _ faced why) e =
           let full_end : end.Full ≡ word = cc in
-          subst (Ends K o.past s budget run.book.history) full_end
+          subst (Ends K o.past s 0 budget run.book.history) full_end
           (full faced.entry promise (comes_by x.added x.history faced
           (sym (ap (λ (g : HostImage). is_accepted (answer g faced.entry.command).reply) why.1.host) ∙ why.1.no_room.accepted))
           (no_room_by faced.entry why.1) (stored_by why.0))
@@ -279,58 +280,31 @@ module _ {D : Type 0} (tells : Type 0) (reads : D → DiskOf) (leaves : D → Di
 
     -- how it ended
     pub ends_of : (fault : Option CallFault) → HowEnded tells leaves left moment faults first run (in_turn s) fault
-        → (word : End) → end_by fault (is_some (ready run.book.host)) ≡ Some word → Ends K o.past s budget run.book.history word
+        → (word : End) → end_by fault (is_some (ready run.book.host)) ≡ Some word → Ends K o.past s 0 budget run.book.history word
     ends_of None how word is = ends_whole how.0 how.1 (ready run.book.host) refl word is
     ends_of (Some fault) how word is = ends_stopped fault how word is
 
     -- what it came to in any case
 
     pub promise_of : (fault : Option CallFault) → HowEnded tells leaves left moment faults first run (in_turn s) fault
-        → IsHistoryOf o.past s budget run.book.history
+        → IsHistoryOf o.past s 0 budget run.book.history
     promise_of None how = (whole_by how.0 how.1).part
     promise_of (Some fault) how = promise_by how.added run.book.host how.history how.reaches
 
     doubtful_stopped : (fault : CallFault) → Stops tells leaves left moment faults fault first run (in_turn s) → tells
-        → IsDoubtful K o.past s budget run.book.history
+        → IsDoubtful K o.past s 0 budget run.book.history
     doubtful_stopped fault x told = by fault x.why where
       by : (f : CallFault) → Stopped tells leaves left moment faults first run (in_turn s) x.added f
-          → IsDoubtful K o.past s budget run.book.history
+          → IsDoubtful K o.past s 0 budget run.book.history
       by call.Disk (unanswered _ faced why) = doubtful_by x.added x.history faced why.1 told
       by call.Full (unanswered _ faced why) = doubtful_by x.added x.history faced (inl why.0) told
       by call.NoMemory (unanswered _ faced why) = doubtful_by x.added x.history faced (inl why) told
-      by call.NoMemory (no_memory same) = doubtful_stored start o.past run.book s budget is_last (same ∙ o.doubts) told
+      by call.NoMemory (no_memory same) = doubtful_stored start o.past run.book s 0 budget is_last (same ∙ o.doubts) told
 
     pub holds_of : (fault : Option CallFault) → HowEnded tells leaves left moment faults first run (in_turn s) fault → tells
-        → IsDoubtful K o.past s budget run.book.history
-    holds_of None how told = doubtful_stored start o.past run.book s budget is_last (how.0.doubts ∙ o.doubts) told
+        → IsDoubtful K o.past s 0 budget run.book.history
+    holds_of None how told = doubtful_stored start o.past run.book s 0 budget is_last (how.0.doubts ∙ o.doubts) told
     holds_of (Some fault) how told = doubtful_stopped fault how told
-
-    abbrev pub opened_by : (tells → (n : ℕ) (g : HostImage) → StandsFor (reads start) n g → (old.opened ≡ n) × (old.host ≡ g))
-        → Opening K
-    opened_by stood = record {
-      past = o.past;
-      accepted = o.book.past_accepted;
-      stood = λ told n g is. (sym o.book.opened ∙ (stood told n g is).0, sym first_host ∙ (stood told n g is).1);
-    }
-
-    -- what is said of it
-    pub runs_of : (stood : tells → (n : ℕ) (g : HostImage) → StandsFor (reads start) n g → (old.opened ≡ n) × (old.host ≡ g))
-        → (account : Account) (fault : Option CallFault) → HowEnded tells leaves left moment faults first run (in_turn s) fault
-        → (n : ℕ) (g : HostImage) (es : List Entry) → run.book.opened ≡ n → run.book.host ≡ g → run.book.history ≡ es
-        → (status : Status) (bytes : List ℕ) → IsTold account fault n g es status bytes → Runs K account s budget status bytes
-    runs_of stood account fault how n g es is_opened is_host is_history status bytes t =
-        subst (λ (x : Status). Runs K account s budget x bytes) (sym t.is_status) (ran t.end bytes (record {
-          opened = opened_by stood;
-          history = run.book.history;
-          ends = ends_of fault how t.end (ap (λ (x : HostImage). end_by fault (is_some (ready x))) is_host ∙ t.ends);
-          is = t.is_bytes ∙ ap (λ (x : ℕ). account x g es t.end) (sym is_opened ∙ is_last.opened)
-              ∙ ap (λ (x : HostImage). account (length o.past) x es t.end) (sym is_host ∙ is_last.host)
-              ∙ ap (λ (x : List Entry). account (length o.past) (host_after o.past run.book.history) x t.end) (sym is_history);
-        }))
-
-    pub left_of : (tells → (n : ℕ) (g : HostImage) → StandsFor (reads start) n g → (old.opened ≡ n) × (old.host ≡ g))
-        → (fault : Option CallFault) → HowEnded tells leaves left moment faults first run (in_turn s) fault → LeftBy K s budget
-    left_of stood fault how = left_by (opened_by stood) run.book.history (promise_of fault how) (holds_of fault how)
 
   -- ---- a journal that is shown
 

@@ -1,5 +1,6 @@
 pub mod CrossingLemmas
 pub mod DrawnLemmas
+pub mod EndLemmas
 pub mod FrontLemmas
 pub mod JournalLemmas
 pub mod Promise

@@ -138,7 +138,7 @@ no_steps s steps =
 
 -- the first entries of the run of a script
 pub history_of_front : (past : List Command) (s : Script) (budget : ℕ) (history : List Entry) → HasNoStep s
-    → IsFront (opening past) (in_turn s) budget history → IsHistoryOf past s budget history
+    → IsFront (opening past) (in_turn s) budget history → IsHistoryOf past s 0 budget history
 history_of_front past s budget history steps front =
     let g = opening past in
     let distinct = distinct_commands empty_host past tt in
@@ -151,12 +151,12 @@ history_of_front past s budget history steps front =
       once = once_of past history legal;
       served = served_in_part s history front.rest (served_of_run (history ++ front.rest) g s budget distinct front.run);
       within = omega (arith, whole, few);
-      run = front;
+      run = λ _. front;
     }
 
 -- the whole run of a script
 pub history_of_run : (past : List Command) (s : Script) (budget : ℕ) (history : List Entry) → HasNoStep s
-    → IsRun (opening past) (in_turn s) budget history → IsWholeHistoryOf past s budget history
+    → IsRun (opening past) (in_turn s) budget history → IsWholeHistoryOf past s 0 budget history
 history_of_run past s budget history steps run =
     let g = opening past in
     let distinct = distinct_commands empty_host past tt in
@@ -166,5 +166,5 @@ history_of_run past s budget history steps run =
       part = history_of_front past s budget history steps front;
       served = served_of_run history g s budget distinct run;
       spent = spent_of_run history g (in_turn s) budget distinct (no_steps s steps) run;
-      run = run;
+      run = λ _. run;
     }

@@ -1,5 +1,5 @@
 -- How a run goes on: by nothing, by a step, by a command, and by one part after another; and how it stops.
-use Rattle.std.proofs.Common.{◌≡◌, ◌⊎◌, inl, inr, ℕ, suc, ◌≤◌, Some, List, [], ◌∷◌, ◌++◌, Option, Result, Ok, Err, OnOk, IfErr, append_assoc, append-nil, refl, sym, ap, subst, ◌∙◌, arith}
+use Rattle.std.proofs.Common.{◌≡◌, ◌≢◌, ◌⊎◌, inl, inr, ℕ, zero, suc, ◌≤◌, Some, List, [], ◌∷◌, ◌++◌, Option, Result, Ok, Err, OnOk, IfErr, append_assoc, append-nil, refl, sym, ap, subst, ◌∙◌, arith}
 use Rattle.std.specs.Result.{result_err}
 use Rattle.sc_types.specs.declared.command.Command.{Command}
 use Rattle.sc_types.specs.declared.command.Command.TheVariants.{Step}
@@ -11,15 +11,18 @@ use Rattle.sc_book.specs.Books.{BookOf, IsBook}
 use Rattle.sc_book.specs.Receipts.{Doubts, HasNoRoom, IsDoubted, IsUnanswered}
 use Rattle.sc_book.specs.declared.fault.CallFault.{CallFault}
 use Rattle.sc_book.specs.declared.fault.CallFault.TheVariants.{Disk, Full, NoMemory}
-use Rattle.sc_core.specs.Accepted.{is_accepted}
+use Rattle.sc_core.specs.Accepted.{accepted_steps, is_accepted}
 use Rattle.sc_core.specs.Commands.{answer}
 use Rattle.sc_core.specs.Cues.{ready}
 use Rattle.sc_core.specs.Histories.{replay}
 use Rattle.sc_core.proofs.AcceptedLemmas.{replay_append}
 use Rattle.sc_dev.specs.Causes.{Rose}
 use Rattle.sc_dev.specs.Disks.{DiskOf}
+use Rattle.sc_pool.specs.Books.{seen_of}
+use Rattle.sc_pool.specs.Pools.{Ran}
+use Rattle.sc_script.specs.declared.script.Script.{Script}
 use Rattle.sc_top.specs.Run.{Made, makes, of_ready, next, Enters, Continues, IsRun}
-use Rattle.sc_top.specs.Running.{Faces, Goes, GoesOn, HasStepped, HowEnded, IsDoubtOf, IsUnmade, IsWhy, Makes, Reaches, RunOf, Stopped, Stops, no_memory, unanswered}
+use Rattle.sc_top.specs.Running.{Faces, Goes, GoesOn, HasStepped, HowEnded, HowRan, IsDoubtOf, IsUnmade, IsWhy, Makes, Reaches, RunOf, Stopped, Stops, no_memory, unanswered}
 
 -- what follows from what holds of a result
 
@@ -279,3 +282,21 @@ module _ {D : Type 0} (tells : Type 0) (leaves : D → DiskOf → Type 0) (left 
       subst (HowEnded tells leaves left moment faults old new all) (sym is) (goes, stepped)
   ended_by old new all (Err e) o is goes stepped stops =
       subst (HowEnded tells leaves left moment faults old new all) (sym is) stops
+
+-- ---- a run with workers
+
+module _ {D : Type 0} (tells : Type 0) (leaves : D → DiskOf → Type 0) (left : D → ℕ → DiskOf → Type 0)
+    (moment faults identity : D → ℕ) (old new : BookOf D) (s : Script) (budget : ℕ) (fault : Option CallFault)
+    (r : Ran s budget (seen_of tells leaves left moment faults identity old)
+    (seen_of tells leaves left moment faults identity new) fault) where
+  pub on_in_threads : GoesOn tells leaves left moment faults identity old new
+  on_in_threads =
+      record { kept = r.goes_on.kept; opened = r.goes_on.opened; later = r.goes_on.later; same = r.goes_on.same }
+
+  pub how_in_threads : (workers : ℕ) → workers ≢ 0 → HowRan tells leaves left moment faults identity old new s workers budget fault
+  how_in_threads zero some = absurd (some refl)
+  how_in_threads (suc more) some = r
+
+-- before the first step
+pub within_nothing : (entries : List Entry) (budget : ℕ) → entries ≡ [] → accepted_steps entries ≤ budget
+within_nothing entries budget none = omega (arith, ap accepted_steps none)

@@ -20,29 +20,29 @@ use Rattle.sc_words.specs.declared.asked.Asked.TheVariants.{Check, Gen, Run, Sho
 use Rattle.sc_words.specs.declared.asked.TheConstants.{RUN_BUDGET}
 
 -- what is said of a script that was read is what the promise says of a run
-pub run_says : {E : Type 0} (budget : ℕ) (k : Known) (text : List ℕ) (r : Result Saying E)
-    → IsRead (Some (Run 0 budget)) k.source text
-    → IfOk r (λ s. SaysOfScript k.disk budget (script_of text) (status_of s) (text_of s))
-    → IfOk r (λ s. Says (Some (Run 0 budget)) k (status_of s) (text_of s))
-run_says budget k text (Ok s) told says = promise.run budget text (status_of s) (text_of s) refl told says
-run_says budget k text (Err e) told says = tt
+pub run_says : {E : Type 0} (workers budget : ℕ) (k : Known) (text : List ℕ) (r : Result Saying E)
+    → IsRead (Some (Run workers budget)) k.source text
+    → IfOk r (λ s. SaysOfScript k.disk workers budget (script_of text) (status_of s) (text_of s))
+    → IfOk r (λ s. Says (Some (Run workers budget)) k (status_of s) (text_of s))
+run_says workers budget k text (Ok s) told says = promise.run workers budget text (status_of s) (text_of s) refl told says
+run_says workers budget k text (Err e) told says = tt
 
 -- and what is left where memory was wanting
-pub run_leaves : {E : Type 0} (budget : ℕ) (k : Known) (text : List ℕ) (r : Result Saying E)
-    → IsRead (Some (Run 0 budget)) k.source text → OnErr r (LeavesScript k.disk budget (script_of text))
-    → OnErr r (Leaves (Some (Run 0 budget)) k)
-run_leaves budget k text (Ok s) told leaves = tt
-run_leaves budget k text (Err e) told leaves = promise.left_script budget text refl told leaves
+pub run_leaves : {E : Type 0} (workers budget : ℕ) (k : Known) (text : List ℕ) (r : Result Saying E)
+    → IsRead (Some (Run workers budget)) k.source text → OnErr r (LeavesScript k.disk workers budget (script_of text))
+    → OnErr r (Leaves (Some (Run workers budget)) k)
+run_leaves workers budget k text (Ok s) told leaves = tt
+run_leaves workers budget k text (Err e) told leaves = promise.left_script workers budget text refl told leaves
 
 -- of a script that was drawn
 pub drawn_says : {E : Type 0} (number size : ℕ) (k : Known) (r : Result Saying E)
-    → IfOk r (λ s. Runs k.disk (λ opened. summary number size) (generated number size) RUN_BUDGET (status_of s) (text_of s))
+    → IfOk r (λ s. Runs k.disk (λ opened. summary number size) (generated number size) 0 RUN_BUDGET (status_of s) (text_of s))
     → IfOk r (λ s. Says (Some (Gen number size)) k (status_of s) (text_of s))
 drawn_says number size k (Ok s) runs = promise.drawn number size (status_of s) (text_of s) refl runs
 drawn_says number size k (Err e) runs = tt
 
 pub drawn_leaves : {E : Type 0} (number size : ℕ) (k : Known) (r : Result Saying E)
-    → OnErr r (LeftBy k.disk (generated number size) RUN_BUDGET) → OnErr r (Leaves (Some (Gen number size)) k)
+    → OnErr r (LeftBy k.disk (generated number size) 0 RUN_BUDGET) → OnErr r (Leaves (Some (Gen number size)) k)
 drawn_leaves number size k (Ok s) left = tt
 drawn_leaves number size k (Err e) left = promise.left_drawn number size refl left
 
@@ -91,14 +91,14 @@ told_text asked source a b e = subst (IsRead asked source) e
 
 -- of a text that spells a script
 
-pub script_says : {E : Type 0} (k : DiskKnown) (budget : ℕ) (x : Spelled) (script : Script) (r : Result Saying E)
-    → x ≡ Ok script → IfOk r (λ s. Runs k report script budget (status_of s) (text_of s))
-    → IfOk r (λ s. SaysOfScript k budget x (status_of s) (text_of s))
-script_says k budget x script (Ok s) is runs =
-    subst (λ y. SaysOfScript k budget y (status_of s) (text_of s)) (sym is) (spelled script (status_of s) (text_of s) runs)
-script_says k budget x script (Err e) is runs = tt
+pub script_says : {E : Type 0} (k : DiskKnown) (workers budget : ℕ) (x : Spelled) (script : Script) (r : Result Saying E)
+    → x ≡ Ok script → IfOk r (λ s. Runs k report script workers budget (status_of s) (text_of s))
+    → IfOk r (λ s. SaysOfScript k workers budget x (status_of s) (text_of s))
+script_says k workers budget x script (Ok s) is runs =
+    subst (λ y. SaysOfScript k workers budget y (status_of s) (text_of s)) (sym is) (spelled script (status_of s) (text_of s) runs)
+script_says k workers budget x script (Err e) is runs = tt
 
-pub script_leaves : {E : Type 0} (k : DiskKnown) (budget : ℕ) (x : Spelled) (script : Script) (r : Result Saying E)
-    → x ≡ Ok script → OnErr r (LeftBy k script budget) → OnErr r (LeavesScript k budget x)
-script_leaves k budget x script (Ok s) is left = tt
-script_leaves k budget x script (Err e) is left = subst (LeavesScript k budget) (sym is) (left_run script left)
+pub script_leaves : {E : Type 0} (k : DiskKnown) (workers budget : ℕ) (x : Spelled) (script : Script) (r : Result Saying E)
+    → x ≡ Ok script → OnErr r (LeftBy k script workers budget) → OnErr r (LeavesScript k workers budget x)
+script_leaves k workers budget x script (Ok s) is left = tt
+script_leaves k workers budget x script (Err e) is left = subst (LeavesScript k workers budget) (sym is) (left_run script left)

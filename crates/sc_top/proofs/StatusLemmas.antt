@@ -8,7 +8,6 @@ use Rattle.sc_top.specs.declared.saying.Saying.TheVariants as saying
 
 never_seven : (s : Saying) → 7 ≡ code (status_of s) → ⊥
 never_seven saying.OtherWords e = omega (arith, e)
-never_seven saying.NotBuilt e = omega (arith, e)
 never_seven saying.ReadFault e = omega (arith, e)
 never_seven saying.DiskFault e = omega (arith, e)
 never_seven saying.Created e = omega (arith, e)

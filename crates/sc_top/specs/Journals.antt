@@ -3,6 +3,7 @@ use Rattle.std.specs.Prelude.{ℕ, ◌+◌, ◌≡◌, ◌⊎◌, true, false, L
 use Rattle.sc_book.specs.Books.{first_head, opening}
 use Rattle.sc_book.specs.Images.{Spell, StandsFor}
 use Rattle.sc_book.specs.Openings.{HasFirstBad, IsDamagedAt}
+use Rattle.sc_book.specs.Receipts.{most_body}
 use Rattle.sc_codec.specs.Bodies.{body_of}
 use Rattle.sc_core.specs.Accepted.{AreAccepted, accepted_commands}
 use Rattle.sc_core.specs.Commands.{answer}
@@ -58,19 +59,19 @@ abbrev pub host_after : List Command → List Entry → HostImage
 host_after past history = replay (opening past) history
 
 -- one command more, which comes next in the run and which a fault of the disk left in doubt
-pub record IsWithNext (past : List Command) (s : Script) (budget : ℕ) (history : List Entry) (c : DiskOf) : Type 0 where
+pub record IsWithNext (past : List Command) (s : Script) (workers budget : ℕ) (history : List Entry) (c : DiskOf) : Type 0 where
   pub entry : Entry
-  pub next : ComesNext past s budget history entry
+  pub next : ComesNext past s workers budget history entry
   pub stands : StandsFor c (count_after past history + 1) (answer (host_after past history) entry.command).host
 
 -- an image stands for the history, or for that with the command in doubt
-abbrev pub IsWithOrWithout : List Command → Script → ℕ → List Entry → DiskOf → Type 0
-IsWithOrWithout past s budget history c =
-    StandsFor c (count_after past history) (host_after past history) ⊎ IsWithNext past s budget history c
+abbrev pub IsWithOrWithout : List Command → Script → ℕ → ℕ → List Entry → DiskOf → Type 0
+IsWithOrWithout past s workers budget history c =
+    StandsFor c (count_after past history) (host_after past history) ⊎ IsWithNext past s workers budget history c
 
-pub record IsDoubtful (k : DiskKnown) (past : List Command) (s : Script) (budget : ℕ) (history : List Entry) : Type 0 where
-  pub reads : IsWithOrWithout past s budget history k.reads
-  pub stops : (c : DiskOf) → k.leaves c → IsWithOrWithout past s budget history c
+pub record IsDoubtful (k : DiskKnown) (past : List Command) (s : Script) (workers budget : ℕ) (history : List Entry) : Type 0 where
+  pub reads : IsWithOrWithout past s workers budget history k.reads
+  pub stops : (c : DiskOf) → k.leaves c → IsWithOrWithout past s workers budget history c
 
 -- where the journal of these commands ends
 pub record IsEndOf (commands : List Command) (end : ℕ) : Type 0 where
@@ -83,6 +84,12 @@ pub record HasNoRoomFor (k : DiskKnown) (past : List Command) (history : List En
   pub end : ℕ
   pub is_end : k.told → IsEndOf (past ++ accepted_commands history) end
   pub full : IsFull end (count_after past history + 1) (length (body_of e.command))
+
+-- the journal lacks room for some command: it has none for one of the longest
+pub record IsTight (k : DiskKnown) (past : List Command) (history : List Entry) : Type 0 where
+  pub end : ℕ
+  pub is_end : k.told → IsEndOf (past ++ accepted_commands history) end
+  pub full : IsFull end (count_after past history + 1) most_body
 
 -- A journal that was opened: the commands that it held, each accepted in its turn. Where the disk stood for so many
 -- commands and a host, they are those.

@@ -14,7 +14,7 @@ use Rattle.sc_script.specs.declared.script.Script.{Script}
 use Rattle.sc_book.specs.Books.{opening}
 use Rattle.sc_core.specs.Cues.{ready}
 use Rattle.sc_top.specs.Devices.{most_read}
-use Rattle.sc_top.specs.Journals.{Creates, DiskKnown, FailsToOpen, HasNoRoomFor, IsDoubtful, IsStored, IsUnwritten, Opening, count_after, host_after}
+use Rattle.sc_top.specs.Journals.{Creates, DiskKnown, FailsToOpen, HasNoRoomFor, IsDoubtful, IsStored, IsTight, IsUnwritten, Opening, count_after, host_after}
 use Rattle.sc_report.specs.Lines.{line}
 use Rattle.sc_report.specs.Entries.{fault_text}
 use Rattle.sc_report.specs.Report.{report}
@@ -31,17 +31,20 @@ use Rattle.sc_words.specs.declared.asked.Asked.TheVariants.{Init, Run, Show, Che
 use Rattle.sc_words.specs.declared.asked.TheConstants.{RUN_BUDGET}
 
 -- How a run ended, and what the disk holds then. It came to its end, and no session is ready, or one is and the steps are
--- used up; or the disk failed, and may have left the next command in doubt; or there is no room for the next command.
-pub data Ends (k : DiskKnown) (past : List Command) (s : Script) (budget : ℕ) (history : List Entry) : End → Type 0 where
-  quiet : IsWholeHistoryOf past s budget history → ready (host_after past history) ≡ None
-      → (k.told → IsStored k (count_after past history) (host_after past history)) → Ends k past s budget history end.Quiet
-  spent : IsWholeHistoryOf past s budget history → ready (host_after past history) ≢ None
-      → (k.told → IsStored k (count_after past history) (host_after past history)) → Ends k past s budget history end.Budget
-  failed : IsHistoryOf past s budget history → k.failed → (k.told → IsDoubtful k past s budget history)
-      → Ends k past s budget history end.Disk
-  full : (e : Entry) → IsHistoryOf past s budget history → ComesNext past s budget history e
+-- used up; or the disk failed, and may have left the next command in doubt; or there is no room for the next
+-- command, or with workers for some command.
+pub data Ends (k : DiskKnown) (past : List Command) (s : Script) (workers budget : ℕ) (history : List Entry) : End → Type 0 where
+  quiet : IsWholeHistoryOf past s workers budget history → ready (host_after past history) ≡ None
+      → (k.told → IsStored k (count_after past history) (host_after past history)) → Ends k past s workers budget history end.Quiet
+  spent : IsWholeHistoryOf past s workers budget history → ready (host_after past history) ≢ None
+      → (k.told → IsStored k (count_after past history) (host_after past history)) → Ends k past s workers budget history end.Budget
+  failed : IsHistoryOf past s workers budget history → k.failed → (k.told → IsDoubtful k past s workers budget history)
+      → Ends k past s workers budget history end.Disk
+  full : (e : Entry) → IsHistoryOf past s workers budget history → ComesNext past s workers budget history e
       → HasNoRoomFor k past history e
-      → (k.told → IsStored k (count_after past history) (host_after past history)) → Ends k past s budget history end.Full
+      → (k.told → IsStored k (count_after past history) (host_after past history)) → Ends k past s workers budget history end.Full
+  tight : workers ≢ 0 → IsHistoryOf past s workers budget history → IsTight k past history
+      → (k.told → IsStored k (count_after past history) (host_after past history)) → Ends k past s workers budget history end.Full
 
 -- what is written of a run, by how many commands the journal held at its opening, the host at the end, the history, and
 -- how it ended
@@ -50,19 +53,19 @@ Account = ℕ → HostImage → List Entry → End → List ℕ
 
 -- The bytes of a script's run are those of one history from the host that the journal held, with all that is promised
 -- of it.
-pub record Reports (k : DiskKnown) (account : Account) (script : Script) (budget : ℕ) (end : End) (bytes : List ℕ) :
+pub record Reports (k : DiskKnown) (account : Account) (script : Script) (workers budget : ℕ) (end : End) (bytes : List ℕ) :
     Type 0 where
   pub opened : Opening k
   pub history : List Entry
-  pub ends : Ends k opened.past script budget history end
+  pub ends : Ends k opened.past script workers budget history end
   pub is : bytes ≡ account (length opened.past) (host_after opened.past history) history end
 
 -- of a script: it was run on the journal's host, or there is none, and nothing was written
-pub data Runs (k : DiskKnown) (account : Account) (script : Script) (budget : ℕ) : Status → List ℕ → Type 0 where
+pub data Runs (k : DiskKnown) (account : Account) (script : Script) (workers budget : ℕ) : Status → List ℕ → Type 0 where
   not_run : (status : Status) (bytes : List ℕ) → IsUnwritten k → FailsToOpen k status bytes
-      → Runs k account script budget status bytes
-  ran : (end : End) (bytes : List ℕ) → Reports k account script budget end bytes
-      → Runs k account script budget (end_status end) bytes
+      → Runs k account script workers budget status bytes
+  ran : (end : End) (bytes : List ℕ) → Reports k account script workers budget end bytes
+      → Runs k account script workers budget (end_status end) bytes
 
 -- of `show`: the journal's host, or why there is none; nothing was written
 pub data Shows (k : DiskKnown) : Status → List ℕ → Type 0 where
@@ -85,11 +88,11 @@ abbrev pub IsRead : Option Asked → Option (List ℕ) → List ℕ → Type 0
 IsRead asked source text = IfSome source (λ all. text ≡ take (most_read asked) all)
 
 -- of a text that should spell a script; where it spells none, nothing was written
-pub data SaysOfScript (k : DiskKnown) (budget : ℕ) : Spelled → Status → List ℕ → Type 0 where
+pub data SaysOfScript (k : DiskKnown) (workers budget : ℕ) : Spelled → Status → List ℕ → Type 0 where
   no_script : (fault : ScriptFault) → IsUnwritten k
-      → SaysOfScript k budget (Err fault) status.BadScript (line (codes "script " ++ script_fault_text fault))
-  spelled : (script : Script) (status : Status) (bytes : List ℕ) → Runs k report script budget status bytes
-      → SaysOfScript k budget (Ok script) status bytes
+      → SaysOfScript k workers budget (Err fault) status.BadScript (line (codes "script " ++ script_fault_text fault))
+  spelled : (script : Script) (status : Status) (bytes : List ℕ) → Runs k report script workers budget status bytes
+      → SaysOfScript k workers budget (Ok script) status bytes
 
 -- of `check`: the text is a chart, or has this fault
 pub data Checks (source : Option (List ℕ)) (read_failed : Type 0) : Status → List ℕ → Type 0 where
@@ -104,17 +107,15 @@ pub data Says (asked : Option Asked) (k : Known) : Status → List ℕ → Type 
   other_words : asked ≡ None → Says asked k status.OtherWords (codes "words\n")
   initialised : (status : Status) (bytes : List ℕ) → asked ≡ Some Init → Creates k.disk status bytes
       → Says asked k status bytes
-  not_built : (workers budget : ℕ) → asked ≡ Some (Run workers budget) → workers ≢ 0 → IsUnwritten k.disk
-      → Says asked k status.NotBuilt (codes "not-built\n")
-  unread_script : (budget : ℕ) → asked ≡ Some (Run 0 budget) → k.read_failed → IsUnwritten k.disk
+  unread_script : (workers budget : ℕ) → asked ≡ Some (Run workers budget) → k.read_failed → IsUnwritten k.disk
       → Says asked k status.ReadFault (codes "read\n")
-  run : (budget : ℕ) (text : List ℕ) (status : Status) (bytes : List ℕ) → asked ≡ Some (Run 0 budget)
-      → IsRead asked k.source text → SaysOfScript k.disk budget (script_of text) status bytes → Says asked k status bytes
+  run : (workers budget : ℕ) (text : List ℕ) (status : Status) (bytes : List ℕ) → asked ≡ Some (Run workers budget)
+      → IsRead asked k.source text → SaysOfScript k.disk workers budget (script_of text) status bytes → Says asked k status bytes
   tells : (status : Status) (bytes : List ℕ) → asked ≡ Some Show → Shows k.disk status bytes → Says asked k status bytes
   checked : (status : Status) (bytes : List ℕ) → asked ≡ Some Check → Checks k.source k.read_failed status bytes
       → Says asked k status bytes
   drawn : (number size : ℕ) (status : Status) (bytes : List ℕ) → asked ≡ Some (Gen number size)
-      → Runs k.disk (λ opened. summary number size) (generated number size) RUN_BUDGET status bytes
+      → Runs k.disk (λ opened. summary number size) (generated number size) 0 RUN_BUDGET status bytes
       → Says asked k status bytes
 
 -- these bytes are those of some status other than the two that say nothing of their own
@@ -123,19 +124,19 @@ pub record Output (asked : Option Asked) (k : Known) (text : List ℕ) : Type 0 
   pub says : Says asked k status text
 
 -- Where memory was wanting in a script's run: the journal was not opened, or the disk holds what the run came to.
-pub data LeftBy (k : DiskKnown) (script : Script) (budget : ℕ) : Type 0 where
-  unopened : IsUnwritten k → LeftBy k script budget
-  left_by : (o : Opening k) (history : List Entry) → IsHistoryOf o.past script budget history
-      → (k.told → IsDoubtful k o.past script budget history) → LeftBy k script budget
+pub data LeftBy (k : DiskKnown) (script : Script) (workers budget : ℕ) : Type 0 where
+  unopened : IsUnwritten k → LeftBy k script workers budget
+  left_by : (o : Opening k) (history : List Entry) → IsHistoryOf o.past script workers budget history
+      → (k.told → IsDoubtful k o.past script workers budget history) → LeftBy k script workers budget
 
-pub data LeavesScript (k : DiskKnown) (budget : ℕ) : Spelled → Type 0 where
-  unread : (spelled : Spelled) → IsUnwritten k → LeavesScript k budget spelled
-  left_run : (script : Script) → LeftBy k script budget → LeavesScript k budget (Ok script)
+pub data LeavesScript (k : DiskKnown) (workers budget : ℕ) : Spelled → Type 0 where
+  unread : (spelled : Spelled) → IsUnwritten k → LeavesScript k workers budget spelled
+  left_run : (script : Script) → LeftBy k script workers budget → LeavesScript k workers budget (Ok script)
 
 -- where memory was wanting
 pub data Leaves (asked : Option Asked) (k : Known) : Type 0 where
   unwritten : IsUnwritten k.disk → Leaves asked k
-  left_script : (budget : ℕ) (text : List ℕ) → asked ≡ Some (Run 0 budget) → IsRead asked k.source text
-      → LeavesScript k.disk budget (script_of text) → Leaves asked k
+  left_script : (workers budget : ℕ) (text : List ℕ) → asked ≡ Some (Run workers budget) → IsRead asked k.source text
+      → LeavesScript k.disk workers budget (script_of text) → Leaves asked k
   left_drawn : (number size : ℕ) → asked ≡ Some (Gen number size)
-      → LeftBy k.disk (generated number size) RUN_BUDGET → Leaves asked k
+      → LeftBy k.disk (generated number size) 0 RUN_BUDGET → Leaves asked k

@@ -1,5 +1,6 @@
 -- A run under way: the book, and the steps that are left. Only private clauses cite these definitions.
 use Rattle.std.specs.Prelude.{ℕ, ◌≡◌, ◌≤◌, ◌⊎◌, true, Option, None, Some, List, [], ◌∷◌, ◌++◌}
+use Rattle.std.proofs.Common.{zero, suc}
 use Rattle.sc_types.specs.declared.command.Command.{Command}
 use Rattle.sc_types.specs.declared.history.Entry.{Entry}
 use Rattle.sc_types.specs.declared.history.Who.{Who}
@@ -14,7 +15,10 @@ use Rattle.sc_book.specs.declared.fault.CallFault.TheVariants.{Disk, Full, NoMem
 use Rattle.sc_core.specs.Accepted.{is_accepted}
 use Rattle.sc_core.specs.Commands.{answer}
 use Rattle.sc_core.specs.Histories.{replay}
-use Rattle.sc_top.specs.Run.{Made, of_script, next, Enters, IsRun}
+use Rattle.sc_pool.specs.Books.{seen_of}
+use Rattle.sc_pool.specs.Pools.{Ran}
+use Rattle.sc_script.specs.declared.script.Script.{Script}
+use Rattle.sc_top.specs.Run.{Made, in_turn, of_script, next, Enters, IsRun}
 
 pub record RunOf (D : Type 0) : Type 0 where
   pub book : BookOf D
@@ -127,15 +131,24 @@ HowEnded tells may_leave may_have_left moment faults old new all None = Goes old
 HowEnded tells may_leave may_have_left moment faults old new all (Some fault) =
     Stops tells may_leave may_have_left moment faults fault old new all
 
--- A run that began with this book and so many steps has ended, and left this host, this count of commands at the opening,
--- this history and this disk.
+-- how a run of a script with so many workers went: alone, or as the jobs of a pool leave it
+abbrev pub HowRan : {D : Type 0} → Type 0 → (D → DiskOf → Type 0) → (D → ℕ → DiskOf → Type 0) → (D → ℕ) → (D → ℕ) → (D → ℕ)
+    → BookOf D → BookOf D → Script → ℕ → ℕ → Option CallFault → Type 0
+HowRan tells may_leave may_have_left moment faults identity old new s zero budget fault =
+    (left : ℕ) × HowEnded tells may_leave may_have_left moment faults (run_of old budget) (run_of new left) (in_turn s) fault
+HowRan tells may_leave may_have_left moment faults identity old new s (suc more) budget fault =
+    Ran s budget (seen_of tells may_leave may_have_left moment faults identity old)
+    (seen_of tells may_leave may_have_left moment faults identity new) fault
+
+-- A run that began with this book has ended, and left this host, this count of commands at the opening, this history and
+-- this disk.
 pub record HasEnded {D : Type 0} (tells : Type 0) (may_leave : D → DiskOf → Type 0)
-    (may_have_left : D → ℕ → DiskOf → Type 0) (moment faults identity : D → ℕ) (old : BookOf D) (budget : ℕ)
-    (all : List Made) (g : HostImage) (n : ℕ) (entries : List Entry) (left : D) (fault : Option CallFault) : Type 0 where
-  pub run : RunOf D
-  pub goes_on : GoesOn tells may_leave may_have_left moment faults identity old run.book
-  pub how : HowEnded tells may_leave may_have_left moment faults (run_of old budget) run all fault
-  pub host : run.book.host ≡ g
-  pub opened : run.book.opened ≡ n
-  pub history : run.book.history ≡ entries
-  pub disk : run.book.journal.disk ≡ left
+    (may_have_left : D → ℕ → DiskOf → Type 0) (moment faults identity : D → ℕ) (old : BookOf D) (s : Script)
+    (workers budget : ℕ) (g : HostImage) (n : ℕ) (entries : List Entry) (left : D) (fault : Option CallFault) : Type 0 where
+  pub book : BookOf D
+  pub goes_on : GoesOn tells may_leave may_have_left moment faults identity old book
+  pub how : HowRan tells may_leave may_have_left moment faults identity old book s workers budget fault
+  pub host : book.host ≡ g
+  pub opened : book.opened ≡ n
+  pub history : book.history ≡ entries
+  pub disk : book.journal.disk ≡ left

@@ -28,7 +28,6 @@ use Rattle.sc_top.specs.declared.status.Status.TheVariants as status
 -- the status that goes with a saying
 abbrev pub status_of : Saying → Status
 status_of saying.OtherWords = status.OtherWords
-status_of saying.NotBuilt = status.NotBuilt
 status_of saying.ReadFault = status.ReadFault
 status_of saying.DiskFault = status.DiskFault
 status_of saying.Created = status.Done
@@ -47,7 +46,6 @@ account (form.Summary number size) = λ opened. summary number size
 -- the bytes that go with a saying
 abbrev pub text_of : Saying → List ℕ
 text_of saying.OtherWords = codes "words\n"
-text_of saying.NotBuilt = codes "not-built\n"
 text_of saying.ReadFault = codes "read\n"
 text_of saying.DiskFault = codes "disk\n"
 text_of saying.Created = codes "created\n"

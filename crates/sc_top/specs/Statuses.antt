@@ -3,7 +3,7 @@ use Rattle.std.specs.Prelude.{ℕ}
 use Rattle.sc_report.specs.declared.end.End.{End}
 use Rattle.sc_report.specs.declared.end.End.TheVariants as end
 use Rattle.sc_top.specs.declared.status.Status.{Status}
-use Rattle.sc_top.specs.declared.status.Status.TheVariants.{Done, OtherWords, BadScript, Faulty, ReadFault, WriteFault, DiskFault, OutOfMemory, Budget, BadJournal, Full, Exists, NotBuilt}
+use Rattle.sc_top.specs.declared.status.Status.TheVariants.{Done, OtherWords, BadScript, Faulty, ReadFault, WriteFault, DiskFault, OutOfMemory, Budget, BadJournal, Full, Exists}
 
 abbrev pub code : Status → ℕ
 code Done = 0
@@ -18,7 +18,6 @@ code Budget = 8
 code BadJournal = 9
 code Full = 10
 code Exists = 11
-code NotBuilt = 12
 
 -- the status of a report that ends so
 abbrev pub end_status : End → Status

@@ -6,12 +6,12 @@ ghost use Rattle.sc_top.specs.Promise.{LeftBy, Runs, Shows};
 ghost use Rattle.sc_top.specs.Sayings.{IsTold, SaysFault, account, end_by, status_of, text_of};
 
 use crate::lines::counted_line;
-use crate::run::{Ended, run_script};
+use crate::run::{Ended, Steps, run_script};
 use crate::saying::{Form, Saying};
 use sc_base::NoMemory;
 use sc_book::{Book, CallFault, OpenFault};
 use sc_core::{Closed, History, HostState};
-use sc_dev::Disk;
+use sc_dev::{Disk, Gate};
 use sc_journal::{CreateFault, create};
 use sc_law::Engine;
 use sc_report::End;
@@ -19,6 +19,8 @@ use sc_script::Script;
 use sc_turn::Compiled;
 use std::alloc::Global;
 use std::mem;
+use std::sync::Wait;
+use std::thread::Threads;
 
 /// Makes a journal.
 pub(crate) fn init<D: Disk>(disk: &mut D) -> Saying
@@ -54,21 +56,24 @@ pub(crate) fn show<D: Disk>(alloc: Global, disk: &mut D) -> Result<Saying, NoMem
 }
 
 /// Opens a journal, and runs a script on its host.
-pub(crate) fn run<D: Disk>(
+pub(crate) fn run<R: Threads + Wait + Sync, D: Disk, G: Gate>(
+    rt: &R,
     alloc: Global,
-    budget: u64,
+    steps: Steps,
     script: Script,
     form: Form,
     disk: &mut D,
+    gate: &G,
 ) -> Result<Saying, NoMemory>
     requires steps { HasNoStep script }
     ensures ok { IfOk result (λ s. Runs (disk_known D.tells D.reads D.may_leave D.faults disk.old disk.new)
-        (account form) script budget (status_of s) (text_of s)) }
-    ensures err { OnErr result (LeftBy (disk_known D.tells D.reads D.may_leave D.faults disk.old disk.new) script budget) }
+        (account form) script steps.workers steps.budget (status_of s) (text_of s)) }
+    ensures err { OnErr result (LeftBy (disk_known D.tells D.reads D.may_leave D.faults disk.old disk.new) script steps.workers
+        steps.budget) }
 {
     match Book::open(alloc, &Compiled, disk) {
         Ok(book) => {
-            let mut ended = run_script(alloc, book, script, budget);
+            let mut ended = run_script(rt, alloc, book, script, steps, gate);
             let said = tell(alloc, form, &mut ended);
             into_disk(ended.closed);
             said

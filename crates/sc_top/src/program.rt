@@ -16,34 +16,45 @@ ghost use Rattle.sc_top.specs.Statuses.{code};
 use crate::check::check_text;
 use crate::journal;
 use crate::lines::script_fault_line;
+use crate::run::Steps;
 use crate::saying::{Form, Saying};
 use crate::status::Status;
 use sc_base::{Failure, NoMemory};
-use sc_dev::{Disk, Sink, Source, read_up_to};
+use sc_dev::{Disk, Gate, Sink, Source, read_up_to};
 use sc_script::{generate, read_script};
 use sc_types::{CHART_TEXT_LIMIT, SCRIPT_TEXT_LIMIT};
 use sc_words::{Asked, RUN_BUDGET, read_words};
 use std::alloc::Global;
+use std::sync::Wait;
+use std::thread::Threads;
 
 /// Runs the program with the words after its name, and answers its exit status.
 ///
-/// `init` makes a journal on the disk, and the sink takes `created`. With the words `run --workers 0` the source has a
-/// script, which is run on the host that the journal holds, and the sink takes the report. `--budget N` bounds the steps;
-/// without it they are 1,000,000. `gen NUMBER SIZE` runs so the script that is drawn from the number, and the sink takes
-/// the summary. `show` tells that host. With the word `check` the source has a chart, and the sink takes `ok` and the
-/// number of its states, or, with the status 3, `chart` and its first fault. Nothing is read yet for a run with workers.
+/// `init` makes a journal on the disk, and the sink takes `created`. With the word `run` the source has a script, which is
+/// run on the host that the journal holds, and the sink takes the report: with `--workers 0` on one thread, and else the
+/// set-up first, and then each client and each of so many workers, two without the option, in a thread of its own.
+/// `--budget N` bounds the steps; without it they are 1,000,000. `gen NUMBER SIZE` runs on one thread the script that is
+/// drawn from the number, and the sink takes the summary. `show` tells that host. With the word `check` the source has a
+/// chart, and the sink takes `ok` and the number of its states, or, with the status 3, `chart` and its first fault.
 ///
-/// A run ends at its first fault of the disk, with the status 6, and where the journal has no room for its next command,
-/// with 10; after 8 the steps were used up; and the report ends so. Else the sink takes the line that names the status: 1
-/// `words`, 2 `script` with the first faulty line and its cause, 4 `read`, 6 `disk`, 9 `damaged` and the place or `entry`
-/// and the number, 11 `exists`, 12 `not-built`. After 5, the sink failed and has taken the first part of what was to be written; after 7 the
-/// program was out of memory, and nothing was written, but a run may have been journaled in part.
-pub fn top<S: Source, K: Sink, D: Disk>(
+/// On one thread a run ends at its first fault of the disk, with the status 6, and where the journal has no room for its
+/// next command, with 10. With workers a thread ends so, and the others go on; the status is that of the worst fault, of
+/// the disk before a full journal. After 8 the steps were used up. After all three the sink has taken the report, which
+/// ends so. Else the sink takes the line that names the status: 1 `words`, 2 `script` with the first faulty line and its
+/// cause, 4 `read`, 6 `disk`, 9 `damaged` and the place or `entry` and the number, 11 `exists`. After 5, the sink failed
+/// and has taken the first part of what was to be written; after 7 the program was out of memory, and nothing was written,
+/// but a run may have been journaled in part.
+///
+/// Each worker passes the gate between the claim of a session and its commit. No clause says that a thread runs, or that
+/// the call returns: it waits for locks.
+pub fn top<R: Threads + Wait + Sync, S: Source, K: Sink, D: Disk, G: Gate>(
+    rt: &R,
     alloc: Global,
     words: &[String],
     source: &mut S,
     sink: &mut K,
     disk: &mut D,
+    gate: &G,
 ) -> u8
     ensures said { result ≢ code Status.WriteFault → result ≢ code Status.OutOfMemory → (status : Status) × (text : List ℕ)
         × (result ≡ code status) × Says (asked (map string_bytes words.now))
@@ -63,18 +74,20 @@ pub fn top<S: Source, K: Sink, D: Disk>(
     ensures few { ConsumesUpTo (most_read (asked (map string_bytes words.now))) (S.left source.old) (S.left source.new) }
     ensures untouched { uses_journal (asked (map string_bytes words.now)) ≡ false → disk.new ≡ disk.old }
 {
-    match answer(alloc, words, source, disk) {
+    match answer(rt, alloc, words, source, disk, gate) {
         Ok(saying) => say(sink, &saying),
         Err(NoMemory) => Status::OutOfMemory.code(),
     }
 }
 
 /// What there is to say of what the words ask for.
-fn answer<S: Source, D: Disk>(
+fn answer<R: Threads + Wait + Sync, S: Source, D: Disk, G: Gate>(
+    rt: &R,
     alloc: Global,
     words: &[String],
     source: &mut S,
     disk: &mut D,
+    gate: &G,
 ) -> Result<Saying, NoMemory>
     ensures says { IfOk result (λ s. Says (asked (map string_bytes words.now))
         (known (S.left source.old) (Rose (S.faults source.old) (S.faults source.new))
@@ -86,17 +99,19 @@ fn answer<S: Source, D: Disk>(
     ensures untouched { uses_journal (asked (map string_bytes words.now)) ≡ false → disk.new ≡ disk.old }
 {
     match read_words(alloc, words) {
-        Ok(asked) => saying_of(alloc, asked, source, disk),
+        Ok(asked) => saying_of(rt, alloc, asked, source, disk, gate),
         Err(NoMemory) => Err(NoMemory),
     }
 }
 
 /// What there is to say of what is asked.
-fn saying_of<S: Source, D: Disk>(
+fn saying_of<R: Threads + Wait + Sync, S: Source, D: Disk, G: Gate>(
+    rt: &R,
     alloc: Global,
     asked: Option<Asked>,
     source: &mut S,
     disk: &mut D,
+    gate: &G,
 ) -> Result<Saying, NoMemory>
     ensures says { IfOk result (λ s. Says asked
         (known (S.left source.old) (Rose (S.faults source.old) (S.faults source.new))
@@ -109,88 +124,82 @@ fn saying_of<S: Source, D: Disk>(
 {
     match asked {
         Some(Asked::Init) => Ok(journal::init(disk)),
-        Some(Asked::Run { workers, budget }) => run(alloc, workers, budget, source, disk),
+        Some(Asked::Run { workers, budget }) => {
+            run(rt, alloc, Steps { workers, budget }, source, disk, gate)
+        }
         Some(Asked::Show) => journal::show(alloc, disk),
         Some(Asked::Check) => check(alloc, source),
-        Some(Asked::Gen { number, size }) => draw(alloc, number, size, disk),
+        Some(Asked::Gen { number, size }) => draw(rt, alloc, number, size, disk, gate),
         None => Ok(Saying::OtherWords),
     }
 }
 
-/// What there is to say of a run; that there are no threads yet to step sessions, where some are asked for.
-fn run<S: Source, D: Disk>(
+/// What there is to say of a run.
+fn run<R: Threads + Wait + Sync, S: Source, D: Disk, G: Gate>(
+    rt: &R,
     alloc: Global,
-    workers: u32,
-    budget: u64,
+    steps: Steps,
     source: &mut S,
     disk: &mut D,
+    gate: &G,
 ) -> Result<Saying, NoMemory>
-    ensures says { IfOk result (λ s. Says (Some (Asked.Run workers budget))
+    ensures says { IfOk result (λ s. Says (Some (Asked.Run steps.workers steps.budget))
         (known (S.left source.old) (Rose (S.faults source.old) (S.faults source.new))
         (disk_known D.tells D.reads D.may_leave D.faults disk.old disk.new)) (status_of s) (text_of s)) }
-    ensures left { OnErr result (Leaves (Some (Asked.Run workers budget))
+    ensures left { OnErr result (Leaves (Some (Asked.Run steps.workers steps.budget))
         (known (S.left source.old) (Rose (S.faults source.old) (S.faults source.new))
         (disk_known D.tells D.reads D.may_leave D.faults disk.old disk.new))) }
-    ensures few { ConsumesUpTo (most_read (Some (Asked.Run workers budget))) (S.left source.old) (S.left source.new) }
-    ensures untouched { uses_journal (Some (Asked.Run workers budget)) ≡ false → disk.new ≡ disk.old }
-{
-    if workers == 0 {
-        run_alone(alloc, budget, source, disk)
-    } else {
-        Ok(Saying::NotBuilt)
-    }
-}
-
-fn run_alone<S: Source, D: Disk>(
-    alloc: Global,
-    budget: u64,
-    source: &mut S,
-    disk: &mut D,
-) -> Result<Saying, NoMemory>
-    ensures says { IfOk result (λ s. Says (Some (Asked.Run 0 budget))
-        (known (S.left source.old) (Rose (S.faults source.old) (S.faults source.new))
-        (disk_known D.tells D.reads D.may_leave D.faults disk.old disk.new)) (status_of s) (text_of s)) }
-    ensures left { OnErr result (Leaves (Some (Asked.Run 0 budget))
-        (known (S.left source.old) (Rose (S.faults source.old) (S.faults source.new))
-        (disk_known D.tells D.reads D.may_leave D.faults disk.old disk.new))) }
-    ensures few { ConsumesUpTo (most_read (Some (Asked.Run 0 budget))) (S.left source.old) (S.left source.new) }
+    ensures few { ConsumesUpTo (most_read (Some (Asked.Run steps.workers steps.budget))) (S.left source.old) (S.left source.new) }
 {
     match read_up_to(alloc, source, SCRIPT_TEXT_LIMIT) {
-        Ok(text) => run_text(alloc, budget, text.as_slice(), disk),
+        Ok(text) => run_text(rt, alloc, steps, text.as_slice(), disk, gate),
         Err(Failure::Fault(_)) => Ok(Saying::ReadFault),
         Err(Failure::NoMemory) => Err(NoMemory),
     }
 }
 
 /// What there is to say of a text that should spell a script.
-fn run_text<D: Disk>(
+fn run_text<R: Threads + Wait + Sync, D: Disk, G: Gate>(
+    rt: &R,
     alloc: Global,
-    budget: u64,
+    steps: Steps,
     text: &[u8],
     disk: &mut D,
+    gate: &G,
 ) -> Result<Saying, NoMemory>
     ensures ok { IfOk result (λ s. SaysOfScript (disk_known D.tells D.reads D.may_leave D.faults disk.old disk.new)
-        budget (script_of text.now) (status_of s) (text_of s)) }
+        steps.workers steps.budget (script_of text.now) (status_of s) (text_of s)) }
     ensures err { OnErr result (LeavesScript (disk_known D.tells D.reads D.may_leave D.faults disk.old disk.new)
-        budget (script_of text.now)) }
+        steps.workers steps.budget (script_of text.now)) }
 {
     match read_script(alloc, text) {
-        Ok(script) => journal::run(alloc, budget, script, Form::Report, disk),
+        Ok(script) => journal::run(rt, alloc, steps, script, Form::Report, disk, gate),
         Err(Failure::Fault(fault)) => Ok(Saying::BadScript(script_fault_line(alloc, &fault)?)),
         Err(Failure::NoMemory) => Err(NoMemory),
     }
 }
 
 /// What there is to say of a script that is drawn from a number.
-fn draw<D: Disk>(alloc: Global, number: u64, size: u32, disk: &mut D) -> Result<Saying, NoMemory>
+fn draw<R: Threads + Wait + Sync, D: Disk, G: Gate>(
+    rt: &R,
+    alloc: Global,
+    number: u64,
+    size: u32,
+    disk: &mut D,
+    gate: &G,
+) -> Result<Saying, NoMemory>
     ensures ok { IfOk result (λ s. Runs (disk_known D.tells D.reads D.may_leave D.faults disk.old disk.new)
-        (λ opened. summary number size) (generated number size) RUN_BUDGET (status_of s) (text_of s)) }
+        (λ opened. summary number size) (generated number size) 0 RUN_BUDGET (status_of s) (text_of s)) }
     ensures err { OnErr result (LeftBy (disk_known D.tells D.reads D.may_leave D.faults disk.old disk.new)
-        (generated number size) RUN_BUDGET) }
+        (generated number size) 0 RUN_BUDGET) }
 {
     let form = Form::Summary { number, size };
+    let steps = Steps {
+        workers: 0,
+        budget: RUN_BUDGET,
+    };
     match generate(alloc, number, size) {
-        Ok(script) => journal::run(alloc, RUN_BUDGET, script, form, disk),
+        Ok(script) => journal::run(rt, alloc, steps, script, form, disk, gate),
         Err(NoMemory) => Err(NoMemory),
     }
 }

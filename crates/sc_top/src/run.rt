@@ -1,15 +1,28 @@
-ghost use Rattle.std.specs.Prelude.{◌++◌, [], List, OnOk, IfErr};
+ghost use Rattle.std.specs.Prelude.{◌≡◌, ◌≢◌, ◌++◌, [], List, OnOk, IfErr};
+ghost use Rattle.sc_script.specs.Steps.{HasNoStep};
 ghost use Rattle.sc_top.specs.Run.{Made, in_turn, of_client, of_clients};
 ghost use Rattle.sc_top.specs.Running.{HasEnded};
 
 use sc_base::Plain;
 use sc_book::{Book, CallFault};
 use sc_core::Closed;
-use sc_dev::Disk;
+use sc_dev::{Disk, Gate};
 use sc_law::Engine;
+use sc_pool::run_jobs;
 use sc_script::Script;
 use sc_types::{Command, NoMemory, Sequence, Who};
 use std::alloc::Global;
+use std::sync::Wait;
+use std::thread::Threads;
+
+/// Who steps the sessions of a run, and how often at most.
+#[derive(Clone, Copy, Debug, PartialEq, Eq)]
+pub(crate) struct Steps {
+    /// How many workers there are beside the clients. Where there is none, one thread does all.
+    pub(crate) workers: u32,
+    /// How many steps may be accepted.
+    pub(crate) budget: u64,
+}
 
 /// A run under way: the book, and how many steps are left.
 #[derive(Drop)]
@@ -118,19 +131,72 @@ pub(crate) struct Ended<E: Engine, D: Disk> {
 }
 
 /// Runs a script on one thread, with at most so many steps, to its end or to the first fault.
-pub(crate) fn run_script<'e, E: Engine, D: Disk>(
+fn run_alone<'e, E: Engine, D: Disk>(
     alloc: Global,
     book: Book<'e, E, D>,
     script: Script,
     budget: u64,
 ) -> Ended<E, D>
-    ensures { HasEnded D.tells D.may_leave D.may_have_left D.moment D.faults D.identity book.entry budget (in_turn script) result.closed.host.image
-        result.closed.opened result.closed.history.entries result.closed.disk result.fault }
+    ensures { HasEnded D.tells D.may_leave D.may_have_left D.moment D.faults D.identity book.entry script 0 budget
+        result.closed.host.image result.closed.opened result.closed.history.entries result.closed.disk result.fault }
 {
     let mut run = Run { book, left: budget };
     let fault = run.make_script(alloc, script).err();
     Ended {
         closed: run.book.finish(),
         fault,
+    }
+}
+
+/// Runs a script with workers, in threads, to its end.
+fn run_in_threads<'e, R: Threads + Wait + Sync, E: Engine, D: Disk, G: Gate>(
+    rt: &R,
+    alloc: Global,
+    book: Book<'e, E, D>,
+    script: Script,
+    steps: Steps,
+    gate: &G,
+) -> Ended<E, D>
+    requires no_step { HasNoStep script }
+    requires opened { book.history ≡ [] }
+    requires some { steps.workers ≢ 0 }
+    ensures { HasEnded D.tells D.may_leave D.may_have_left D.moment D.faults D.identity book.entry script steps.workers steps.budget
+        result.closed.host.image result.closed.opened result.closed.history.entries result.closed.disk result.fault }
+{
+    let engine = book.engine();
+    let (book, fault) = run_jobs(
+        rt,
+        alloc,
+        book,
+        engine,
+        script,
+        steps.workers,
+        steps.budget,
+        gate,
+    );
+    Ended {
+        closed: book.finish(),
+        fault,
+    }
+}
+
+/// Runs a script on a book that was just opened.
+pub(crate) fn run_script<'e, R: Threads + Wait + Sync, E: Engine, D: Disk, G: Gate>(
+    rt: &R,
+    alloc: Global,
+    book: Book<'e, E, D>,
+    script: Script,
+    steps: Steps,
+    gate: &G,
+) -> Ended<E, D>
+    requires no_step { HasNoStep script }
+    requires opened { book.history ≡ [] }
+    ensures { HasEnded D.tells D.may_leave D.may_have_left D.moment D.faults D.identity book.entry script steps.workers steps.budget
+        result.closed.host.image result.closed.opened result.closed.history.entries result.closed.disk result.fault }
+{
+    if steps.workers == 0 {
+        run_alone(alloc, book, script, steps.budget)
+    } else {
+        run_in_threads(rt, alloc, book, script, steps, gate)
     }
 }

@@ -25,8 +25,6 @@ pub(crate) enum Form {
 #[derive(Drop)]
 pub(crate) enum Saying {
     OtherWords,
-    /// The program has no threads yet to step sessions.
-    NotBuilt,
     /// The source failed.
     ReadFault,
     /// The disk failed, and nothing was run.
@@ -54,7 +52,6 @@ impl Saying {
     {
         match self {
             Saying::OtherWords => Status::OtherWords,
-            Saying::NotBuilt => Status::NotBuilt,
             Saying::ReadFault => Status::ReadFault,
             Saying::DiskFault => Status::DiskFault,
             Saying::Created => Status::Done,
@@ -75,7 +72,6 @@ impl Saying {
     {
         match self {
             Saying::OtherWords => write_all(sink, b"words\n"),
-            Saying::NotBuilt => write_all(sink, b"not-built\n"),
             Saying::ReadFault => write_all(sink, b"read\n"),
             Saying::DiskFault => write_all(sink, b"disk\n"),
             Saying::Created => write_all(sink, b"created\n"),

@@ -29,8 +29,6 @@ pub enum Status {
     Full,
     /// There is a journal already.
     Exists,
-    /// Threads are asked for to step sessions, which the program does not have yet.
-    NotBuilt,
 }
 
 impl Status {
@@ -63,7 +61,6 @@ impl Status {
             Status::BadJournal => 9,
             Status::Full => 10,
             Status::Exists => 11,
-            Status::NotBuilt => 12,
         }
     }
 }

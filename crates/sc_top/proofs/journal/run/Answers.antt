@@ -1,10 +1,11 @@
-use Rattle.sc_top.proofs.CrossingLemmas.{second_send, second_sync}
+use Rattle.sc_top.proofs.CrossingLemmas.{plan_send_at, plan_sync_at}
 use Rattle.std.proofs.Common.{◌∙◌, ℕ, IfOk, sym, ap, subst, rules, MutBor}
 use Rattle.sc_dev.specs.Disks.{DiskOf}
 use Rattle.sc_top.specs.Journals.{disk_known}
 use Rattle.sc_top.specs.Promise.{LeftBy, Runs, not_run}
 use Rattle.sc_top.specs.Sayings.{account, status_of, text_of}
-use Rattle.sc_top.proofs.JournalLemmas.{fails_of, if_ok_map, left_of, on_err, runs_of}
+use Rattle.sc_top.proofs.EndLemmas.{left_of, runs_of}
+use Rattle.sc_top.proofs.JournalLemmas.{fails_of, if_ok_map, on_err}
 use Rattle.sc_top.proofs.journal.run.Goals as goal
 
 pub returns-in-Ok-clause-ok : goal.returns-in-Ok-clause-ok
@@ -23,13 +24,14 @@ returns-in-Ok-clause-ok g c =
     let b = c.in-Ok.book in
     let done = c.run_script-ended.result in
     let named = ap I (c.into_disk.ensures ∙ c.tell-said.ensures.disk ∙ sym e.disk) ∙ e.goes_on.same ∙ c.in-Ok.ensures.same in
-    let told = if_ok_map c.tell-said.result _ (λ s. Runs (disk_known T R L F c.args.disk e.run.book.journal.disk) (account c.args.form) c.args.script
-    c.args.budget (status_of s) (text_of s)) (λ s is. runs_of T R L S M F I standing c.args.disk b c.in-Ok.ensures.opened
-    c.args.script c.args.budget c.requires.steps e.run e.goes_on c.in-Ok.ensures.later c.in-Ok.ensures.stands (account c.args.form) done.fault e.how
+    let told = if_ok_map c.tell-said.result _ (λ s. Runs (disk_known T R L F c.args.disk e.book.journal.disk) (account c.args.form) c.args.script
+    c.args.steps.workers c.args.steps.budget (status_of s) (text_of s)) (λ s is. runs_of T R L S M F I standing c.args.disk b c.in-Ok.ensures.opened
+    c.args.script c.args.steps.budget c.requires.steps e.book e.goes_on c.in-Ok.ensures.later c.in-Ok.ensures.stands (account c.args.form)
+    c.args.steps.workers done.fault e.how
     done.closed.opened done.closed.host.image done.closed.history.entries e.opened e.host e.history (status_of s) (text_of s) is)
     c.tell-said.ensures.told in
     let P : g.row.D.Denot → Type 0 = λ x. IfOk c.tell-said.result (λ s. Runs (disk_known T g.D.Disk.reads g.D.Disk.may_leave
-    g.D.Disk.faults c.args.disk.now x) (account c.args.form) c.args.script c.args.budget (status_of s) (text_of s)) in
+    g.D.Disk.faults c.args.disk.now x) (account c.args.form) c.args.script c.args.steps.workers c.args.steps.budget (status_of s) (text_of s)) in
     let moved : P c.into_disk.result.now =
     subst (λ (x : Lent). P x.now) (e.disk ∙ sym (c.into_disk.ensures ∙ c.tell-said.ensures.disk)) told in
     subst P (search (rules, named)) moved
@@ -50,10 +52,10 @@ returns-in-Ok-clause-err g c =
     let b = c.in-Ok.book in
     let done = c.run_script-ended.result in
     let named = ap I (c.into_disk.ensures ∙ c.tell-said.ensures.disk ∙ sym e.disk) ∙ e.goes_on.same ∙ c.in-Ok.ensures.same in
-    let left = left_of T R L S M F I standing c.args.disk b c.in-Ok.ensures.opened c.args.script c.args.budget c.requires.steps
-    e.run e.goes_on c.in-Ok.ensures.later c.in-Ok.ensures.stands done.fault e.how in
+    let left = left_of T R L S M F I standing c.args.disk b c.in-Ok.ensures.opened c.args.script c.args.steps.budget c.requires.steps
+    e.book e.goes_on c.in-Ok.ensures.later c.in-Ok.ensures.stands c.args.steps.workers done.fault e.how in
     let P : g.row.D.Denot → Type 0 = λ x. LeftBy (disk_known T g.D.Disk.reads g.D.Disk.may_leave g.D.Disk.faults
-    c.args.disk.now x) c.args.script c.args.budget in
+    c.args.disk.now x) c.args.script c.args.steps.workers c.args.steps.budget in
     let moved : P c.into_disk.result.now = subst (λ (x : Lent). P x.now) (e.disk ∙ sym (c.into_disk.ensures ∙ c.tell-said.ensures.disk)) left in
     on_err c.tell-said.result _ (subst P (search (rules, named)) moved)
 
@@ -72,28 +74,28 @@ returns-in-Err-clause-ok g c =
     let f = c.in-Err.failed in
     let why = c.in-Err.ensures in
     let named = ap I c.into_disk-in-Err.ensures ∙ why.same in
-    let told = if_ok_map c.not_opened.result _ (λ s. Runs (disk_known T R L F c.args.disk f.disk) (account c.args.form) c.args.script c.args.budget
+    let told = if_ok_map c.not_opened.result _ (λ s. Runs (disk_known T R L F c.args.disk f.disk) (account c.args.form) c.args.script c.args.steps.workers c.args.steps.budget
     (status_of s) (text_of s)) (λ s is. not_run (status_of s) (text_of s) (λ told. why.images) (fails_of (disk_known T R L F c.args.disk f.disk)
     f.fault (status_of s) (text_of s) why.disk why.damaged why.bad is)) c.not_opened.ensures in
     let P : g.row.D.Denot → Type 0 = λ x. IfOk c.not_opened.result (λ s. Runs (disk_known T g.D.Disk.reads g.D.Disk.may_leave
-    g.D.Disk.faults c.args.disk.now x) (account c.args.form) c.args.script c.args.budget (status_of s) (text_of s)) in
+    g.D.Disk.faults c.args.disk.now x) (account c.args.form) c.args.script c.args.steps.workers c.args.steps.budget (status_of s) (text_of s)) in
     let moved : P c.into_disk-in-Err.result.now = subst (λ (x : Lent). P x.now) (sym c.into_disk-in-Err.ensures) told in
     subst P (search (rules, named)) moved
 
 pub open-requires-send-E-Plan : goal.open-requires-send-E-Plan
-open-requires-send-E-Plan g c κs = λ lives. second_send _
+open-requires-send-E-Plan g c κs = λ lives. plan_send_at 2 _
 
 pub open-requires-sync-E-Plan : goal.open-requires-sync-E-Plan
-open-requires-sync-E-Plan g c κs = λ lives. second_sync _
+open-requires-sync-E-Plan g c κs = λ lives. plan_sync_at 2 _
 
 pub run_script-ended-requires-send-E-Plan : goal.run_script-ended-requires-send-E-Plan
-run_script-ended-requires-send-E-Plan g c κs = λ lives. second_send _
+run_script-ended-requires-send-E-Plan g c κs = λ lives. plan_send_at 4 _
 
 pub run_script-ended-requires-sync-E-Plan : goal.run_script-ended-requires-sync-E-Plan
-run_script-ended-requires-sync-E-Plan g c κs = λ lives. second_sync _
+run_script-ended-requires-sync-E-Plan g c κs = λ lives. plan_sync_at 4 _
 
 pub into_disk-requires-send-E-Plan : goal.into_disk-requires-send-E-Plan
-into_disk-requires-send-E-Plan g c κs = λ lives. second_send _
+into_disk-requires-send-E-Plan g c κs = λ lives. plan_send_at 2 _
 
 pub into_disk-requires-sync-E-Plan : goal.into_disk-requires-sync-E-Plan
-into_disk-requires-sync-E-Plan g c κs = λ lives. second_sync _
+into_disk-requires-sync-E-Plan g c κs = λ lives. plan_sync_at 2 _

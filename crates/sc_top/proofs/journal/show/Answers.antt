@@ -1,4 +1,4 @@
-use Rattle.sc_top.proofs.CrossingLemmas.{second_send, second_sync}
+use Rattle.sc_top.proofs.CrossingLemmas.{plan_send_at, plan_sync_at}
 use Rattle.std.proofs.Common.{◌∙◌, ℕ, IfOk, refl, sym, ap, subst, rules, MutBor}
 use Rattle.sc_dev.specs.Disks.{DiskOf}
 use Rattle.sc_report.specs.Report.{report}
@@ -60,25 +60,25 @@ returns-in-Err-clause-ok g c =
     subst P (search (rules, named)) moved
 
 pub open-requires-send-E-Plan : goal.open-requires-send-E-Plan
-open-requires-send-E-Plan g c κs = λ lives. second_send _
+open-requires-send-E-Plan g c κs = λ lives. plan_send_at 2 _
 
 pub open-requires-sync-E-Plan : goal.open-requires-sync-E-Plan
-open-requires-sync-E-Plan g c κs = λ lives. second_sync _
+open-requires-sync-E-Plan g c κs = λ lives. plan_sync_at 2 _
 
 pub finish-closed-requires-send-E-Plan : goal.finish-closed-requires-send-E-Plan
-finish-closed-requires-send-E-Plan g c κs = λ lives. second_send _
+finish-closed-requires-send-E-Plan g c κs = λ lives. plan_send_at 2 _
 
 pub finish-closed-requires-sync-E-Plan : goal.finish-closed-requires-sync-E-Plan
-finish-closed-requires-sync-E-Plan g c κs = λ lives. second_sync _
+finish-closed-requires-sync-E-Plan g c κs = λ lives. plan_sync_at 2 _
 
 pub into_disk-requires-send-E-Plan : goal.into_disk-requires-send-E-Plan
-into_disk-requires-send-E-Plan g c κs = λ lives. second_send _
+into_disk-requires-send-E-Plan g c κs = λ lives. plan_send_at 2 _
 
 pub into_disk-requires-sync-E-Plan : goal.into_disk-requires-sync-E-Plan
-into_disk-requires-sync-E-Plan g c κs = λ lives. second_sync _
+into_disk-requires-sync-E-Plan g c κs = λ lives. plan_sync_at 2 _
 
 pub left_by-left-requires-send-E-Plan : goal.left_by-left-requires-send-E-Plan
-left_by-left-requires-send-E-Plan g c κs = λ lives. second_send _
+left_by-left-requires-send-E-Plan g c κs = λ lives. plan_send_at 2 _
 
 pub left_by-left-requires-sync-E-Plan : goal.left_by-left-requires-sync-E-Plan
-left_by-left-requires-sync-E-Plan g c κs = λ lives. second_sync _
+left_by-left-requires-sync-E-Plan g c κs = λ lives. plan_sync_at 2 _
