@@ -20,7 +20,7 @@ fn a_chart_has_its_count_of_states(rt: HostRuntime) -> Result<(), Fail> {
             "ok 5\n",
         ),
     ] {
-        let outcome = call(rt.alloc(), CHECK, chart.as_bytes())?;
+        let outcome = call(&rt, rt.alloc(), CHECK, chart.as_bytes())?;
         assert_eq!(rt; outcome.status, 0, "{chart}");
         assert_eq!(rt; outcome.written(), line.as_bytes(), "{chart}");
     }
@@ -57,7 +57,7 @@ fn a_fault_of_a_chart_is_told_with_its_place(rt: HostRuntime) -> Result<(), Fail
             "chart 27 -\n",
         ),
     ] {
-        let outcome = call(rt.alloc(), CHECK, text.as_bytes())?;
+        let outcome = call(&rt, rt.alloc(), CHECK, text.as_bytes())?;
         assert_eq!(rt; outcome.status, 3, "{text}");
         assert_eq!(rt; outcome.written(), line.as_bytes(), "{text}");
     }
@@ -82,7 +82,7 @@ fn a_chart_has_at_most_1048576_bytes(rt: HostRuntime) -> Result<(), Fail> {
     ] {
         let text = chart_with(rt.alloc(), spaces)?;
         assert_eq!(rt; text.len(), size);
-        let outcome = call(rt.alloc(), CHECK, text.as_slice())?;
+        let outcome = call(&rt, rt.alloc(), CHECK, text.as_slice())?;
         assert_eq!(rt; outcome.status, status, "{size} bytes");
         assert_eq!(rt; outcome.written(), line.as_bytes(), "{size} bytes");
     }
@@ -93,7 +93,7 @@ fn a_chart_has_at_most_1048576_bytes(rt: HostRuntime) -> Result<(), Fail> {
 fn a_failed_read_of_a_chart_is_told(rt: HostRuntime) -> Result<(), Fail> {
     let mut source = MemSource::new(rt.alloc(), br#"{"tag":"scxml"}"#, 10, &[2])?;
     let mut sink = MemSink::new(rt.alloc(), 1000, 1000, &[])?;
-    let status = call_over(rt.alloc(), CHECK, &mut source, &mut sink)?;
+    let status = call_over(&rt, rt.alloc(), CHECK, &mut source, &mut sink)?;
     assert_eq!(rt; status, 4);
     assert_eq!(rt; sink.bytes(), b"read\n".as_slice());
     Ok(())
@@ -108,7 +108,7 @@ fn a_failed_write_of_a_check_leaves_its_first_part(rt: HostRuntime) -> Result<()
         &[],
     )?;
     let mut sink = MemSink::new(rt.alloc(), 2, 1000, &[])?;
-    let status = call_over(rt.alloc(), CHECK, &mut source, &mut sink)?;
+    let status = call_over(&rt, rt.alloc(), CHECK, &mut source, &mut sink)?;
     assert_eq!(rt; status, 5);
     assert_eq!(rt; sink.bytes(), b"ok".as_slice());
     Ok(())

@@ -16,7 +16,7 @@ fn a_drawn_script_is_summed_up(rt: HostRuntime) -> Result<(), Fail> {
             "gen 7 1000\nentries 1894 steps 885 sum 877\nend quiet\n",
         ),
     ] {
-        let outcome = call(rt.alloc(), line, b"")?;
+        let outcome = call(&rt, rt.alloc(), line, b"")?;
         assert_eq!(rt; outcome.status, 0, "{line}");
         assert_eq!(rt; outcome.written(), want.as_bytes(), "{line}");
     }
@@ -25,10 +25,10 @@ fn a_drawn_script_is_summed_up(rt: HostRuntime) -> Result<(), Fail> {
 
 #[test]
 fn a_drawn_script_is_journaled(rt: HostRuntime) -> Result<(), Fail> {
-    let mut disk = created(rt.alloc(), &[])?;
-    let first = call_on(rt.alloc(), "gen 0 1", b"", &mut disk)?;
+    let mut disk = created(&rt, rt.alloc(), &[])?;
+    let first = call_on(&rt, rt.alloc(), "gen 0 1", b"", &mut disk)?;
     assert_eq!(rt; first.status, 0);
-    let again = call_on(rt.alloc(), "gen 0 1", b"", &mut disk)?;
+    let again = call_on(&rt, rt.alloc(), "gen 0 1", b"", &mut disk)?;
     let want = "gen 0 1\nentries 11 steps 1 sum 2\nend quiet\n";
     assert_eq!(rt; again.written(), want.as_bytes());
     Ok(())

@@ -9,7 +9,7 @@ fn a_failed_read_is_told(rt: HostRuntime) -> Result<(), Fail> {
     for failing in [1, 3] {
         let mut source = MemSource::new(rt.alloc(), ONE_LOG.as_bytes(), 30, &[failing])?;
         let mut sink = MemSink::new(rt.alloc(), 1000, 1000, &[])?;
-        let status = call_over(rt.alloc(), RUN, &mut source, &mut sink)?;
+        let status = call_over(&rt, rt.alloc(), RUN, &mut source, &mut sink)?;
         assert_eq!(rt; status, 4, "read {failing}");
         assert_eq!(rt; sink.bytes(), b"read\n".as_slice(), "read {failing}");
     }
@@ -25,7 +25,7 @@ fn a_failed_write_leaves_the_first_part_of_the_output(rt: HostRuntime) -> Result
     ] {
         let mut source = MemSource::new(rt.alloc(), ONE_LOG.as_bytes(), 1000, &[])?;
         let mut sink = MemSink::new(rt.alloc(), room, most, &[failing])?;
-        let status = call_over(rt.alloc(), RUN, &mut source, &mut sink)?;
+        let status = call_over(&rt, rt.alloc(), RUN, &mut source, &mut sink)?;
         assert_eq!(rt; status, 5, "after {taken}");
         assert_eq!(rt; sink.bytes(), taken.as_bytes());
     }
@@ -37,7 +37,7 @@ fn a_failed_write_is_told_before_all_else(rt: HostRuntime) -> Result<(), Fail> {
     for line in ["", RUN] {
         let mut source = MemSource::new(rt.alloc(), b"no script", 1000, &[])?;
         let mut sink = MemSink::new(rt.alloc(), 1000, 1, &[2])?;
-        let status = call_over(rt.alloc(), line, &mut source, &mut sink)?;
+        let status = call_over(&rt, rt.alloc(), line, &mut source, &mut sink)?;
         assert_eq!(rt; status, 5);
         assert_eq!(rt; sink.bytes().len(), 1);
     }
@@ -48,10 +48,10 @@ fn a_failed_write_is_told_before_all_else(rt: HostRuntime) -> Result<(), Fail> {
 fn devices_that_never_fail_serve_a_whole_run(rt: HostRuntime) -> Result<(), Fail> {
     let mut source = SureSource::new(rt.alloc(), ONE_LOG.as_bytes())?;
     let mut sink = SureSink::new();
-    assert_eq!(rt; call_over(rt.alloc(), RUN, &mut source, &mut sink)?, 0);
+    assert_eq!(rt; call_over(&rt, rt.alloc(), RUN, &mut source, &mut sink)?, 0);
     let mut source = SureSource::new(rt.alloc(), ONE_LOG.as_bytes())?;
     let mut sink = MemSink::new(rt.alloc(), ONE_LOG_REPORT.len(), 1000, &[])?;
-    assert_eq!(rt; call_over(rt.alloc(), RUN, &mut source, &mut sink)?, 0);
+    assert_eq!(rt; call_over(&rt, rt.alloc(), RUN, &mut source, &mut sink)?, 0);
     assert_eq!(rt; sink.bytes(), ONE_LOG_REPORT.as_bytes());
     Ok(())
 }

@@ -1,5 +1,5 @@
 //! Tests of the devices and of the program as a whole: worked scripts and charts with what is written of them, byte for
-//! byte, texts that are no scripts, devices that fail in mid-stream, and what stops of the machine leave.
+//! byte, texts that are no scripts, devices that fail in mid-stream, what stops of the machine leave, and runs in threads.
 #![tactic(auto)]
 
 #[cfg(test)]
@@ -22,5 +22,7 @@ mod reports;
 mod rows;
 #[cfg(test)]
 mod stops;
+#[cfg(test)]
+mod threads;
 #[cfg(test)]
 mod worked;

@@ -26,7 +26,7 @@ fn other_words_are_no_command(rt: HostRuntime) -> Result<(), Fail> {
         "gen 1 100001",
         "help",
     ] {
-        let outcome = call(rt.alloc(), line, ONE_LOG.as_bytes())?;
+        let outcome = call(&rt, rt.alloc(), line, ONE_LOG.as_bytes())?;
         assert_eq!(rt; outcome.status, 1, "{line}");
         assert_eq!(rt; outcome.written(), b"words\n".as_slice(), "{line}");
     }
@@ -34,26 +34,11 @@ fn other_words_are_no_command(rt: HostRuntime) -> Result<(), Fail> {
 }
 
 #[test]
-fn a_run_with_workers_is_not_built(rt: HostRuntime) -> Result<(), Fail> {
-    for line in [
-        "run",
-        "run --workers 1",
-        "run --workers=16 --budget 7",
-        "run --budget 1",
-    ] {
-        let outcome = call(rt.alloc(), line, ONE_LOG.as_bytes())?;
-        assert_eq!(rt; outcome.status, 12, "{line}");
-        assert_eq!(rt; outcome.written(), b"not-built\n".as_slice(), "{line}");
-    }
-    Ok(())
-}
-
-#[test]
 fn nothing_is_read_for_other_words(rt: HostRuntime) -> Result<(), Fail> {
-    for (line, want) in [("walk", 1), ("run --workers 3", 12), ("gen 3 1", 0)] {
+    for (line, want) in [("walk", 1), ("show", 0), ("gen 3 1", 0)] {
         let mut source = MemSource::new(rt.alloc(), b"script", 1000, &[])?;
         let mut sink = MemSink::new(rt.alloc(), 100, 1000, &[])?;
-        let status = call_over(rt.alloc(), line, &mut source, &mut sink)?;
+        let status = call_over(&rt, rt.alloc(), line, &mut source, &mut sink)?;
         assert_eq!(rt; status, want, "{line}");
         let mut left = [0u8; 10];
         assert_eq!(rt; source.read(&mut left).ok(), Some(6), "{line}");
@@ -111,7 +96,7 @@ fn the_weight_of_a_post_is_bounded(rt: HostRuntime) -> Result<(), Fail> {
         let script = heavy_script(rt.alloc(), bytes)?;
         let mut source = MemSource::new(rt.alloc(), script.slice(), 100_000, &[])?;
         let mut sink = MemSink::new(rt.alloc(), 2_000_000, 100_000, &[])?;
-        let status = call_over(rt.alloc(), RUN, &mut source, &mut sink)?;
+        let status = call_over(&rt, rt.alloc(), RUN, &mut source, &mut sink)?;
         assert_eq!(rt; status, 0);
         assert!(rt; sink.bytes().ends_with(end.as_bytes()), "{bytes}");
     }

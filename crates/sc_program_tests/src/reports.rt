@@ -60,7 +60,7 @@ fn a_script_gives_its_report(rt: HostRuntime) -> Result<(), Fail> {
         (ONE_LOG_AND_A_POST, ONE_LOG_AND_A_POST_REPORT),
         (GO_TWICE, GO_TWICE_REPORT),
     ] {
-        let outcome = call(rt.alloc(), RUN, script.as_bytes())?;
+        let outcome = call(&rt, rt.alloc(), RUN, script.as_bytes())?;
         assert_eq!(rt; outcome.status, 0, "the status of {script}");
         assert_eq!(rt;
             outcome.written(),

@@ -7,7 +7,9 @@ use sc_dev::MemDisk;
 use sc_types::NoMemory;
 use std::alloc::Global;
 use std::process::Abort;
+use std::sync::Wait;
 use std::test::Fail;
+use std::thread::Threads;
 
 /// An entry behind its open gate, and the closed gate behind it. A stop may leave it of bytes that were not synced.
 const ENTRY: [u8; 15] = [1, 0, 0, 0, 9, 4, 0, 0, 0, 0, 0, 0, 0, 5, 0];
@@ -26,9 +28,14 @@ struct Stopped {
     disk: MemDisk,
 }
 
-fn run_until(alloc: Global, row: &Row, failing: u64) -> Result<Stopped, NoMemory> {
-    let mut disk = created(alloc, &[failing])?;
-    let outcome = call_on(alloc, RUN, row.script.as_bytes(), &mut disk)?;
+fn run_until<R: Threads + Wait + Sync>(
+    rt: &R,
+    alloc: Global,
+    row: &Row,
+    failing: u64,
+) -> Result<Stopped, NoMemory> {
+    let mut disk = created(rt, alloc, &[failing])?;
+    let outcome = call_on(rt, alloc, RUN, row.script.as_bytes(), &mut disk)?;
     Ok(Stopped {
         status: outcome.status,
         acknowledged: entries(outcome.written()),
@@ -45,19 +52,21 @@ fn entries(report: &[u8]) -> usize {
 }
 
 /// Whether `show` tells on a disk what was acknowledged, or that and one command more.
-fn is_told(
+fn is_told<R: Threads + Wait + Sync>(
+    rt: &R,
     alloc: Global,
     row: &Row,
     acknowledged: usize,
     disk: &mut MemDisk,
 ) -> Result<bool, NoMemory> {
-    let outcome = call_on(alloc, "show", b"", disk)?;
+    let outcome = call_on(rt, alloc, "show", b"", disk)?;
     let mut may_be_shown = row.shows.iter().skip(acknowledged).take(2);
     Ok(outcome.status == 0 && may_be_shown.any(|show| show.as_bytes() == outcome.written()))
 }
 
 /// Whether it tells so where the machine stopped and these bytes are there.
-fn is_told_after_stop(
+fn is_told_after_stop<R: Threads + Wait + Sync>(
+    rt: &R,
     alloc: Global,
     row: &Row,
     run: &Stopped,
@@ -66,32 +75,42 @@ fn is_told_after_stop(
     requires { 0 < length fill.now }
 {
     let mut left = run.disk.crash(fill, 1000)?;
-    is_told(alloc, row, run.acknowledged, &mut left)
+    is_told(rt, alloc, row, run.acknowledged, &mut left)
 }
 
 /// A run whose disk fails at one call. What is there then, and what each stop leaves of it, holds every command that was
 /// acknowledged.
-fn check_call(rt: &impl Abort, alloc: Global, row: &Row, failing: u64) -> Result<(), Fail> {
-    let mut run = run_until(alloc, row, failing)?;
+fn check_call<R: Abort + Threads + Wait + Sync>(
+    rt: &R,
+    alloc: Global,
+    row: &Row,
+    failing: u64,
+) -> Result<(), Fail> {
+    let mut run = run_until(rt, alloc, row, failing)?;
     assert_eq!(rt; run.status, 6, "call {failing}");
     for gate in [0, 1] {
-        let is_told = is_told_after_stop(alloc, row, &run, &[gate])?;
+        let is_told = is_told_after_stop(rt, alloc, row, &run, &[gate])?;
         assert!(rt; is_told, "a stop after call {failing}, gates {gate}");
     }
-    let is_prefix = is_told_after_stop(alloc, row, &run, &ENTRY)?;
+    let is_prefix = is_told_after_stop(rt, alloc, row, &run, &ENTRY)?;
     assert!(rt; is_prefix, "a stop after call {failing}, an entry");
-    let goes_on = is_told(alloc, row, run.acknowledged, &mut run.disk)?;
+    let goes_on = is_told(rt, alloc, row, run.acknowledged, &mut run.disk)?;
     assert!(rt; goes_on, "call {failing} without a stop");
     Ok(())
 }
 
 /// So at each call of a run of so many commands, which ends well where a later call fails.
-fn check(rt: &impl Abort, alloc: Global, row: &Row, commands: u32) -> Result<(), Fail> {
+fn check<R: Abort + Threads + Wait + Sync>(
+    rt: &R,
+    alloc: Global,
+    row: &Row,
+    commands: u32,
+) -> Result<(), Fail> {
     let end = FIRST_CALL + OPENING_CALLS + 4 * u64::from(commands);
     for failing in FIRST_CALL..end {
         check_call(rt, alloc, row, failing)?;
     }
-    let whole = run_until(alloc, row, end)?;
+    let whole = run_until(rt, alloc, row, end)?;
     assert_eq!(rt; whole.status, 0);
     Ok(())
 }

@@ -3,7 +3,9 @@ use sc_base::TextWriter;
 use sc_types::NoMemory;
 use std::alloc::Global;
 use std::process::Abort;
+use std::sync::Wait;
 use std::test::Fail;
+use std::thread::Threads;
 
 /// A session of one chart: what the script has behind the chart, and what the report has behind that chart's entry.
 #[derive(Drop)]
@@ -40,9 +42,13 @@ impl Worked {
     }
 }
 
-fn check(rt: &impl Abort, alloc: Global, worked: &Worked) -> Result<(), Fail> {
+fn check<R: Abort + Threads + Wait + Sync>(
+    rt: &R,
+    alloc: Global,
+    worked: &Worked,
+) -> Result<(), Fail> {
     let script = worked.script_text(alloc)?;
-    let outcome = call(alloc, RUN, script.slice())?;
+    let outcome = call(rt, alloc, RUN, script.slice())?;
     assert_eq!(rt; outcome.status, 0);
     assert_eq!(rt; outcome.written(), worked.report_text(alloc)?.slice());
     Ok(())
