@@ -2,7 +2,8 @@
 
 The posts to the one session carry their number. The chart counts them, sums their numbers up, and leaves its state `next`
 where a post is not the one after the last. With one thread each post is followed by its step, so that the number of
-journaled commands fixes the table that `show` writes.
+journaled commands fixes the table that `show` writes. With workers the steps may come later, so the table tells how many
+posts and how many steps there are, which together have to be that number.
 """
 
 import json
@@ -43,11 +44,11 @@ def posted(journaled):
     return max(0, journaled - BEFORE_POSTS + 1) // 2
 
 
-def script(journaled, count):
+def script(journaled, count, posts=None):
     """The commands that follow on that many journaled ones, with so many posts; among them some that are refused, and
-    so not journaled."""
+    so not journaled. With workers it has to be said how many of the journaled ones are posts."""
     lines = [f"chart sums {json.dumps(chart(), separators=(',', ':'))}", "start s sums"][journaled:]
-    first = posted(journaled) + 1
+    first = (posted(journaled) if posts is None else posts) + 1
     for number in range(first, first + count):
         lines.append(post(number))
         if number % 5 == 0:
@@ -66,6 +67,24 @@ def table(journaled):
         lines += ["s sums live in next", f". count={count}", f". sum={count * (count + 1) // 2}", f"# {waiting}"]
     lines += ["clock 0 timers 0", "end shown"]
     return "".join(line + "\n" for line in lines).encode()
+
+
+def posts_among(journaled, written):
+    """How many posts are among that many journaled commands, by what `show` wrote of them after runs with workers."""
+    lines = written.decode().split("\n")
+    end = ["clock 0 timers 0", "end shown", ""]
+    waiting = int(lines[-4].split()[1]) if journaled > 1 else 0
+    count = int(lines[3].split("=")[1]) if len(lines) > 7 else 0
+    whole = [f"open {journaled}", f"sessions {int(journaled > 1)}"]
+    if len(lines) > 7:
+        steps = count + 1
+        whole += ["s sums live in next", f". count={count}", f". sum={count * (count + 1) // 2}", f"# {waiting}"]
+    else:
+        steps = 0
+        whole += ["s sums live in", f"# {waiting}"] if journaled > 1 else []
+    if lines != whole + end or journaled != min(journaled, 2) + count + waiting + steps:
+        raise Found(f"show: {written[:300]!r} is not the table of {journaled} commands")
+    return count + waiting
 
 
 def accepted(report):
@@ -100,6 +119,13 @@ class Journal:
 
     def journaled(self, least, most):
         """How many commands are journaled, from `least` to `most`; the table has to be that of these commands."""
+        count, written = self.shown(least, most)
+        if written != table(count):
+            raise Found(f"show: {written[:300]!r} in place of {table(count)!r}")
+        return count
+
+    def shown(self, least, most):
+        """How many commands are journaled, from `least` to `most`, and what `show` writes."""
         done = self.run(["show"])
         first = done.stdout.split(b"\n")[0].split()
         if done.returncode != 0 or len(first) != 2 or first[0] != b"open":
@@ -107,6 +133,4 @@ class Journal:
         count = int(first[1])
         if not least <= count <= most:
             raise Found(f"show: {count} commands are journaled, which is not from {least} to {most}")
-        if done.stdout != table(count):
-            raise Found(f"show: {done.stdout[:300]!r} in place of {table(count)!r}")
-        return count
+        return count, done.stdout
