@@ -1,7 +1,8 @@
 ghost use Rattle.std.specs.Prelude.{◌≡◌, IfOk};
 
 use crate::memory::NoMemory;
-use std::alloc::Global;
+use crate::plain::Plain;
+use std::alloc::{AllocError, Global};
 use std::marker::Model;
 
 /// A value in a place of its own, which contracts see as the value.
@@ -46,6 +47,20 @@ impl<T: Drop> Boxed<T> {
             inner: Box::new(alloc, value)?,
         })
     }
+}
+
+impl<T: Clone> Clone for Boxed<T> {
+    ghost is_clone = { λ b copy. T.is_clone b copy };
+
+    fn clone(&self) -> Result<Self, AllocError> {
+        Ok(Boxed {
+            inner: Box::new(self.allocator(), self.get().clone()?)?,
+        })
+    }
+}
+
+impl<T: Plain> Plain for Boxed<T> {
+    ghost clone_equals = { λ b copy same. T.clone_equals b copy same };
 }
 
 impl<T: PartialEq> PartialEq for Boxed<T> {

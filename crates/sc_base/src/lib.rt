@@ -3,12 +3,14 @@
 #![tactic(auto)]
 
 mod boxed;
+mod boxed_sequence;
 mod bytes;
 mod counted;
 mod failure;
 mod memory;
 mod plain;
 mod queue;
+mod remaining;
 mod sequence;
 mod shared;
 mod shared_bytes;
@@ -17,11 +19,13 @@ mod text;
 mod writer;
 
 pub use boxed::Boxed;
+pub use boxed_sequence::BoxedSequence;
 pub use bytes::Bytes;
 pub use failure::Failure;
 pub use memory::NoMemory;
 pub use plain::Plain;
 pub use queue::Queue;
+pub use remaining::Remaining;
 pub use sequence::Sequence;
 pub use shared::Shared;
 pub use shared_bytes::SharedBytes;

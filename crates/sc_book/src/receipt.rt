@@ -1,4 +1,4 @@
-use sc_base::Sequence;
+use sc_base::{BoxedSequence, Sequence};
 use sc_types::{Delivery, LogLine, Reply};
 
 /// What a command was answered: the entry of the history that it became, by its number from 1 on, and what stands
@@ -7,6 +7,6 @@ use sc_types::{Delivery, LogLine, Reply};
 pub struct Receipt {
     pub number: u64,
     pub reply: Reply,
-    pub logs: Sequence<LogLine>,
+    pub logs: BoxedSequence<LogLine>,
     pub sent: Sequence<Delivery>,
 }

@@ -7,7 +7,7 @@ ghost use Rattle.sc_law.specs.Runs.{pairs_data};
 
 use crate::body::Body;
 use crate::change::Change;
-use crate::prepared::Prepared;
+use crate::prepared::{Prepared, ended};
 use crate::session::Session;
 use crate::weights::is_too_heavy;
 use sc_base::{NoMemory, Plain, SharedBytes, Word};
@@ -56,7 +56,7 @@ impl<P: Drop> Body<P> {
             return Ok(Prepared::refused(alloc, Refusal::NoSession));
         };
         if let Phase::Ended(how) = &found.state.phase {
-            return Ok(Prepared::refused(alloc, Refusal::Ended(how.copy()?)));
+            return Ok(Prepared::refused(alloc, ended(alloc, how)?));
         }
         let event = posted_event(name, pairs)?;
         let reply = Reply::Posted(self.events + 1);
@@ -79,7 +79,7 @@ impl<P: Drop> Body<P> {
             return Ok(Prepared::refused(alloc, Refusal::NoSession));
         };
         if let Phase::Ended(how) = &found.state.phase {
-            return Ok(Prepared::refused(alloc, Refusal::Ended(how.copy()?)));
+            return Ok(Prepared::refused(alloc, ended(alloc, how)?));
         }
         Prepared::accepted(alloc, Reply::Cancelled, Change::Flag { place })
     }

@@ -14,15 +14,19 @@ use crate::body::Body;
 use crate::cues::cue_of;
 use crate::handed::turn_by;
 use crate::host_state::HostState;
-use crate::prepared::Prepared;
-use sc_base::{NoMemory, Plain, Word};
+use crate::prepared::{Prepared, ended};
+use sc_base::{NoMemory, Word};
 use sc_law::{Engine, Turned};
 use sc_types::{Command, Cue, Phase, Refusal};
 use std::alloc::Global;
 
 impl<P: Drop> Body<P> {
     /// The place of the session of a name, and its cue; or why it takes no step.
-    fn next_step(&self, session: &Word) -> Result<Result<(usize, Cue), Refusal>, NoMemory>
+    fn next_step(
+        &self,
+        alloc: Global,
+        session: &Word,
+    ) -> Result<Result<(usize, Cue), Refusal>, NoMemory>
         requires agrees { Agrees self.now }
         ensures { IfOk result (IsNext (image self.now) session.now) }
     {
@@ -30,7 +34,7 @@ impl<P: Drop> Body<P> {
             return Ok(Err(Refusal::NoSession));
         };
         if let Phase::Ended(how) = &found.state.phase {
-            return Ok(Err(Refusal::Ended(how.copy()?)));
+            return Ok(Err(ended(alloc, how)?));
         }
         match cue_of(found)? {
             Some(cue) => Ok(Ok((place, cue))),
@@ -85,7 +89,7 @@ pub(crate) fn draft_step<E: Engine>(
     ensures none { IfOk result (λ p. InstallNone p.changes) }
     ensures fits { OnOk result (StepFits (image body.old) (command.Step session.now)) }
 {
-    match body.next_step(session)? {
+    match body.next_step(alloc, session)? {
         Ok((place, cue)) => draft_turn(alloc, e, body, place, &cue, handed),
         Err(why) => Ok(Prepared::refused(alloc, why)),
     }

@@ -1,8 +1,8 @@
 ghost use Rattle.std.specs.Prelude.{◌≡◌, [], ◌∷◌, IfOk};
 
 use crate::change::Change;
-use sc_base::{NoMemory, Queue, Sequence};
-use sc_types::{Delivery, LogLine, Refusal, Reply};
+use sc_base::{Boxed, BoxedSequence, NoMemory, Plain, Queue, Sequence};
+use sc_types::{Delivery, How, LogLine, Refusal, Reply};
 use std::alloc::Global;
 
 /// A command's answer, and the changes that it makes of the host.
@@ -10,8 +10,15 @@ use std::alloc::Global;
 pub struct Prepared<P> {
     pub(crate) changes: Queue<Change<P>>,
     pub reply: Reply,
-    pub logs: Sequence<LogLine>,
+    pub logs: BoxedSequence<LogLine>,
     pub sent: Sequence<Delivery>,
+}
+
+/// Why a session that ended so takes no command.
+pub(crate) fn ended(alloc: Global, how: &How) -> Result<Refusal, NoMemory>
+    ensures { IfOk result (λ why. why ≡ Refusal.Ended how.now) }
+{
+    Ok(Refusal::Ended(Boxed::new(alloc, how.copy()?)?))
 }
 
 impl<P: Drop> Prepared<P> {
@@ -25,7 +32,7 @@ impl<P: Drop> Prepared<P> {
         Prepared {
             changes: Queue::new(alloc),
             reply: Reply::Refused(why),
-            logs: Sequence::new(alloc),
+            logs: BoxedSequence::empty(),
             sent: Sequence::new(alloc),
         }
     }
@@ -47,7 +54,7 @@ impl<P: Drop> Prepared<P> {
         Ok(Prepared {
             changes,
             reply,
-            logs: Sequence::new(alloc),
+            logs: BoxedSequence::empty(),
             sent: Sequence::new(alloc),
         })
     }

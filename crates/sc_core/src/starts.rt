@@ -12,7 +12,7 @@ use crate::change::Change;
 use crate::charts::{installed_chart, read_legal_chart};
 use crate::prepared::Prepared;
 use crate::session::Session;
-use sc_base::{Bytes, NoMemory, Plain, Queue, Sequence, Word};
+use sc_base::{Boxed, Bytes, NoMemory, Plain, Queue, Sequence, Word};
 use sc_law::Engine;
 use sc_rooms::RoomyQueue;
 use sc_types::{ChartRefusal, NAME_LIMIT, PairList, Phase, Refusal, Reply, SessionState};
@@ -50,7 +50,7 @@ impl<P: Drop> Body<P> {
             Ok(chart) => self.draft_chart(alloc, e, name, text, chart),
             Err(ChartRefusal::Fault(fault)) => Ok(Prepared::refused(
                 alloc,
-                Refusal::BadChart(fault),
+                Refusal::BadChart(Boxed::new(alloc, fault)?),
             )),
             Err(ChartRefusal::NoMemory) => Err(NoMemory),
         }

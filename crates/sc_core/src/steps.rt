@@ -14,7 +14,7 @@ use crate::cues::name_of;
 use crate::draft::Draft;
 use crate::newborns::with_rooms;
 use crate::prepared::Prepared;
-use sc_base::{NoMemory, Queue, Sequence};
+use sc_base::{BoxedSequence, NoMemory, Queue, Sequence};
 use sc_law::Turned;
 use sc_types::{Cue, Effect, Reply, SessionState};
 use std::alloc::Global;
@@ -112,7 +112,7 @@ impl<P: Drop> Body<P> {
         Ok(Prepared {
             changes,
             reply: Reply::Stepped(name_of(cue)),
-            logs,
+            logs: BoxedSequence::new(alloc, logs)?,
             sent: draft.sent,
         })
     }

@@ -13,7 +13,7 @@ use crate::change::Change;
 use crate::failures::communication_error;
 use crate::prepared::Prepared;
 use crate::session::is_running;
-use sc_base::{NoMemory, Plain, Queue, Sequence, SharedBytes, Word};
+use sc_base::{BoxedSequence, NoMemory, Plain, Queue, Sequence, SharedBytes, Word};
 use sc_types::{CLOCK_LIMIT, Delivery, InvokerImage, Phase, Refusal, Reply, TimerImage};
 use std::alloc::Global;
 
@@ -111,7 +111,7 @@ impl<P: Drop> Draft<P> {
         Ok(Prepared {
             changes: self.changes,
             reply: Reply::Ticked(self.sent.len() as u64),
-            logs: Sequence::new(alloc),
+            logs: BoxedSequence::empty(),
             sent: self.sent,
         })
     }

@@ -7,7 +7,7 @@ ghost use Rattle.sc_script.specs.Steps.{HasNoStep};
 ghost use Rattle.sc_core.specs.Accepted.{accepted_steps};
 ghost use Rattle.sc_types.specs.declared.command.Command.{Command};
 
-use crate::client::{Client, CommandList};
+use crate::client::Client;
 use crate::locked::{Locked, Look, Plan, Round};
 use crate::set_up::set_up;
 use sc_base::NoMemory;
@@ -15,7 +15,7 @@ use sc_book::{Book, CallFault};
 use sc_dev::{Disk, Gate};
 use sc_law::Engine;
 use sc_script::Script;
-use sc_types::{Command, Sequence};
+use sc_types::{Command, Remaining, Sequence};
 use std::alloc::Global;
 use std::marker::Brand;
 use std::sync::{Mutex, Wait};
@@ -54,7 +54,7 @@ fn client_of(number: u32, commands: Sequence<Command>) -> Client
 {
     Client {
         number,
-        left: CommandList::new(commands),
+        left: Remaining::new(commands),
         met: false,
     }
 }

@@ -6,7 +6,7 @@ use crate::book::answer;
 use sc_book::{Book, CallFault};
 use sc_dev::Disk;
 use sc_law::Engine;
-use sc_types::{Command, Sequence, Who};
+use sc_types::{Command, Remaining, Sequence, Who};
 use std::alloc::Global;
 
 /// Makes the commands of a set-up one after another, as client 0, to the end or to the first fault.
@@ -18,7 +18,8 @@ pub(crate) fn set_up<E: Engine, D: Disk>(
     ensures { MatchResult result (λ _. MakesPart commands [] (seen_of D.tells D.may_leave D.may_have_left D.moment D.faults D.identity book.old) (seen_of D.tells D.may_leave D.may_have_left D.moment D.faults D.identity book.new))
         (λ fault. FailsIn commands fault (seen_of D.tells D.may_leave D.may_have_left D.moment D.faults D.identity book.old) (seen_of D.tells D.may_leave D.may_have_left D.moment D.faults D.identity book.new)) }
 {
-    for command in commands.into_vec() {
+    let mut left = Remaining::new(commands);
+    while let Some(command) = left.take_first() {
         answer(book, alloc, Who::Client(0), command)?;
     }
     Ok(())

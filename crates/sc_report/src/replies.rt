@@ -68,14 +68,14 @@ fn put_refusal<K: Sink>(out: &mut Outlet<'_, K>, refusal: &Refusal)
     match refusal {
         Refusal::BadChart(fault) => {
             out.bytes(b"1 bad-chart ");
-            put_fault(out, fault);
+            put_fault(out, fault.get());
         }
         Refusal::NameTaken => out.bytes(b"2 name-taken"),
         Refusal::NoChart => out.bytes(b"3 no-chart"),
         Refusal::NoSession => out.bytes(b"4 no-session"),
         Refusal::Ended(how) => {
             out.bytes(b"5 ended ");
-            put_how(out, how);
+            put_how(out, how.get());
         }
         Refusal::TooLong(which) => out.counted(b"6 too-long ", *which),
         Refusal::ClockFull => out.bytes(b"7 clock-full"),

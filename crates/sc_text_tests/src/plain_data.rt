@@ -1,5 +1,6 @@
 use sc_base::{
-    Bytes, Name, NoMemory, Plain, PlainName, Queue, Sequence, SharedBytes, TextWriter, Unfit, Word,
+    BoxedSequence, Bytes, Name, NoMemory, Plain, PlainName, Queue, Sequence, SharedBytes,
+    TextWriter, Unfit, Word,
 };
 use sc_types::{
     Attribute, Chart, Command, Data, Entry, Event, Expr, Kind, LogLine, Member, Node, Reply, Tag,
@@ -145,7 +146,7 @@ fn entry(alloc: Global, text: &str) -> Result<Entry, Unfit> {
             pairs: Sequence::new(alloc),
         },
         reply: Reply::Posted(1),
-        logs,
+        logs: BoxedSequence::new(alloc, logs)?,
         sent: Sequence::new(alloc),
     })
 }

@@ -10,7 +10,7 @@ use sc_dev::{Disk, Gate};
 use sc_law::Engine;
 use sc_pool::run_jobs;
 use sc_script::Script;
-use sc_types::{Command, NoMemory, Sequence, Who};
+use sc_types::{Command, NoMemory, Remaining, Sequence, Who};
 use std::alloc::Global;
 use std::sync::Wait;
 use std::thread::Threads;
@@ -80,7 +80,8 @@ impl<'e, E: Engine, D: Disk> Run<'e, E, D> {
             (run_of self.old.book self.old.left) (run_of self.new.book self.new.left) (of_client client commands ++ cs)) }
         ensures goes_on { GoesOn D.tells D.may_leave D.may_have_left D.moment D.faults D.identity self.old.book self.new.book }
     {
-        for command in commands.into_vec() {
+        let mut left = Remaining::new(commands);
+        while let Some(command) = left.take_first() {
             self.make(alloc, Who::Client(client), command)?;
             self.step_all(alloc)?;
         }

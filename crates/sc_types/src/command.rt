@@ -3,7 +3,7 @@ ghost use Rattle.std.proofs.Common.{rules};
 use crate::chart::ChartFault;
 use crate::session::{CueName, How};
 use crate::value::PairList;
-use sc_base::{Bytes, Plain, Word};
+use sc_base::{Boxed, Bytes, Plain, Word};
 
 /// What a client or a worker asks of the host.
 #[derive(Clone, Debug, Drop, PartialEq, Eq)]
@@ -53,17 +53,18 @@ pub enum Reply {
     Refused(Refusal),
 }
 
-/// Why the host refuses a command, which then changes nothing.
+/// Why the host refuses a command, which then changes nothing. What is large stands in a place of its own, so that each
+/// other reply is small.
 #[derive(Clone, Debug, Drop, PartialEq, Eq)]
 pub enum Refusal {
     /// The text spells no legal chart.
-    BadChart(ChartFault),
+    BadChart(Boxed<ChartFault>),
     /// A chart or a session has this name already.
     NameTaken,
     NoChart,
     NoSession,
     /// The session has ended.
-    Ended(How),
+    Ended(Boxed<How>),
     /// A limit is passed: 1 the session's name, 2 the chart's name, 3 the event's name, 4 the pairs, 5 their
     /// weight.
     TooLong(u8),

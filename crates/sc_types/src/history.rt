@@ -2,7 +2,7 @@ ghost use Rattle.std.proofs.Common.{rules};
 
 use crate::command::{Command, Reply};
 use crate::value::Value;
-use sc_base::{Bytes, Plain, Sequence, Word};
+use sc_base::{BoxedSequence, Bytes, Plain, Sequence, Word};
 
 /// Who made a command: a client of the script, the set-up being client 0, or a worker.
 #[derive(Clone, Copy, Debug, PartialEq, Eq)]
@@ -47,7 +47,7 @@ pub struct Entry {
     pub who: Who,
     pub command: Command,
     pub reply: Reply,
-    pub logs: Sequence<LogLine>,
+    pub logs: BoxedSequence<LogLine>,
     pub sent: Sequence<Delivery>,
 }
 

@@ -37,8 +37,9 @@ pub use limits::{
     TYPE_NAME_LIMIT,
 };
 pub use sc_base::{
-    Boxed, Bytes, Failure, Name, NoMemory, PLAIN_NAME_LIMIT, Plain, PlainName, Queue, Sequence,
-    Shared, SharedBytes, TEXT_LIMIT, TextWriter, Unfit, Word, is_plain_name, is_text, is_word,
+    Boxed, BoxedSequence, Bytes, Failure, Name, NoMemory, PLAIN_NAME_LIMIT, Plain, PlainName,
+    Queue, Remaining, Sequence, Shared, SharedBytes, TEXT_LIMIT, TextWriter, Unfit, Word,
+    is_plain_name, is_text, is_word,
 };
 pub use session::{Cue, CueName, Histories, How, Invoked, Phase, SessionState, Values};
 pub use state_kind::StateKind;
