@@ -1,6 +1,8 @@
 #!/bin/sh
 # What a command costs in a host with 100,000 sessions and as many pending sends, against one with 10 of each; and how
-# much memory a session takes. Run `rt run` in crates/sc_core_bench first.
+# much memory a session takes. Run `rt run` in crates/sc_core_bench first. In the larger host the commands go to the same
+# ten sessions, which shows what a command costs for what the host holds beside, and then to all sessions in turn, where
+# each command meets a session that the processor's caches do not hold.
 # The time of a command is that of many rounds less that of none, over their number, each in processor time and the least
 # of five runs.
 cd "$(dirname "$0")/.." || exit 1
@@ -13,16 +15,22 @@ millis() { # LINE: the least processor time of five runs
     done | sort -n | head -n 1
 }
 
-each() { # KIND SESSIONS ROUNDS: nanoseconds a round
-    none=$(millis "nothing $2 $3")
-    some=$(millis "$1 $2 $3")
+each() { # KIND SESSIONS ROUNDS BUSY: nanoseconds a round, of which the first BUSY sessions take the commands in turn
+    none=$(millis "nothing $2 $3 $4")
+    some=$(millis "$1 $2 $3 $4")
     echo $(((some - none) * 1000000 / $3))
 }
 
+ratio() { # NANOSECONDS NANOSECONDS
+    echo "scale=2; $1 / $2" | bc
+}
+
 compare() { # KIND ROUNDS
-    small=$(each "$1" 10 "$2")
-    large=$(each "$1" $sessions "$2")
-    echo "$1: $small ns with 10 sessions, $large ns with $sessions, ratio $(echo "scale=2; $large / $small" | bc)"
+    small=$(each "$1" 10 "$2" 10)
+    large=$(each "$1" $sessions "$2" 10)
+    spread=$(each "$1" $sessions "$2" $sessions)
+    echo "$1: $small ns with 10 sessions; with $sessions, $large ns for ten of them, ratio $(ratio $large $small)," \
+        "and $spread ns for all in turn, ratio $(ratio $spread $small)"
 }
 
 compare post 400000
@@ -34,13 +42,13 @@ compare fire 400000
 
 # A post, the step in which the session invokes another, the step that ends that one, and the step that hears of it.
 for few in 10 1000 10000; do
-    echo "invoke: $(each invoke $few 100000) ns with $few sessions"
+    echo "invoke: $(each invoke $few 100000 10) ns with $few sessions"
 done
 
 kilobytes() { # LINE
     echo "$1" | command time -f %M "$program" 2>&1 > /dev/null
 }
 
-few=$(kilobytes "nothing 10 1")
-many=$(kilobytes "nothing $sessions 1")
+few=$(kilobytes "nothing 10 1 1")
+many=$(kilobytes "nothing $sessions 1 1")
 echo "memory: $(((many - few) * 1024 / sessions)) bytes a session with its pending send"

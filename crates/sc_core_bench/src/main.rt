@@ -1,11 +1,13 @@
 //! Work for bench/host.sh to time: each line of the input names a kind of command, how many sessions and pending sends
-//! the host holds, and a number of rounds, and is answered by that line and a count, which doesn't depend on time.
+//! the host holds, a number of rounds, and how many of the sessions take commands. It is answered by the first three and a
+//! count, which doesn't depend on time.
 #![tactic(auto)]
 
 mod commands;
 mod host;
 mod work;
 
+use crate::work::Task;
 use std::alloc::Global;
 use std::io;
 
@@ -23,7 +25,14 @@ fn main(rt: HostRuntime) -> io::Result<()> {
         let kind = words.next().unwrap_or("");
         let sessions = number(words.next());
         let rounds = number(words.next());
-        match work::done(rt.alloc(), kind, sessions, rounds) {
+        let busy = number(words.next());
+        let task = Task {
+            kind,
+            sessions,
+            rounds,
+            busy,
+        };
+        match work::done(rt.alloc(), &task) {
             Some(count) => println!(rt; "{kind} {sessions} {rounds} {count}")?,
             None => println!(rt; "{kind} {sessions} {rounds} none")?,
         }

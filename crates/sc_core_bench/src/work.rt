@@ -72,22 +72,31 @@ fn round(
     }
 }
 
-fn rounds(alloc: Global, kind: &str, sessions: u32, rounds: u32) -> Result<u64, NoMemory> {
-    let mut host = filled(alloc, sessions)?;
-    if kind == "invoke" {
+/// What is to be done: so many rounds of a kind of command in a host of so many sessions, to the first ones in turn.
+pub struct Task<'t> {
+    pub kind: &'t str,
+    pub sessions: u32,
+    pub rounds: u32,
+    /// How many sessions take commands.
+    pub busy: u32,
+}
+
+fn rounds(alloc: Global, task: &Task<'_>) -> Result<u64, NoMemory> {
+    let mut host = filled(alloc, task.sessions)?;
+    if task.kind == "invoke" {
         begin_invoker(alloc, &mut host)?;
     }
-    for number in 0..rounds {
-        let session = if sessions == 0 { 0 } else { number % sessions };
-        let next = sessions.saturating_add(number);
-        round(alloc, &mut host, kind, session, next)?;
+    for number in 0..task.rounds {
+        let session = number.checked_rem(task.busy).unwrap_or(0);
+        let next = task.sessions.saturating_add(number);
+        round(alloc, &mut host, task.kind, session, next)?;
     }
     Ok(host.commands())
 }
 
-/// Does so many rounds of a kind of command, and answers how many commands were accepted.
-pub fn done(alloc: Global, kind: &str, sessions: u32, count: u32) -> Option<u64> {
-    match rounds(alloc, kind, sessions, count) {
+/// Does a task, and answers how many commands were accepted.
+pub fn done(alloc: Global, task: &Task<'_>) -> Option<u64> {
+    match rounds(alloc, task) {
         Ok(count) => Some(count),
         Err(NoMemory) => None,
     }
