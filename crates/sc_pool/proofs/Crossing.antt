@@ -12,8 +12,10 @@ use Rattle.std.proofs.Crossing.{Arc-send, crosses}
 use Rattle.std.specs.contracts.option.Option as option
 use Rattle.std.specs.contracts.sync.Mutex as mutex
 use Rattle.sc_base.proofs.boxed.Boxed.TheSendSync as boxed
+use Rattle.sc_base.proofs.boxed_sequence.BoxedSequence.TheSendSync as boxed_sequence
 use Rattle.sc_base.proofs.bytes.Bytes.TheSendSync as bytes
 use Rattle.sc_base.proofs.queue.Queue.TheSendSync as queue
+use Rattle.sc_base.proofs.remaining.Remaining.TheSendSync as remaining
 use Rattle.sc_base.proofs.sequence.Sequence.TheSendSync as sequence
 use Rattle.sc_base.proofs.shared.Shared.TheSendSync as shared
 use Rattle.sc_base.proofs.shared_bytes.SharedBytes.TheSendSync as shared_bytes
@@ -69,8 +71,6 @@ use Rattle.sc_book.specs.contracts.doubt.Doubt as doubt
 use Rattle.sc_book.specs.contracts.fault.CallFault as fault
 use Rattle.sc_book.specs.contracts.log.Log as log
 use Rattle.sc_pool.specs.contracts.client.Client as client
-use Rattle.sc_pool.specs.contracts.client.CommandList as commands
-use Rattle.sc_pool.specs.contracts.client.CommandList.TheInside as in_commands
 use Rattle.sc_pool.specs.contracts.locked.Locked as locked
 use Rattle.sc_pool.specs.contracts.locked.Locked.TheInside as in_locked
 use Rattle.sc_pool.specs.declared.locked.Plan as plan
@@ -151,7 +151,7 @@ invoked_send = as_row_send invoked.the_field invoked_parts.the_field_send
 
 entry_send : IsSend entry.the_row
 entry_send = declared_send entry.the_type
-    (who_send, (command_send, (reply_send, (sequence.the_send _ log_line_send, (sequence.the_send _ delivery_send, tt)))))
+    (who_send, (command_send, (reply_send, (boxed_sequence.the_send _ log_line_send, (sequence.the_send _ delivery_send, tt)))))
 
 ruleset small = (option_send, invoked_send, base, crosses, sendable)
 
@@ -276,11 +276,8 @@ module _ (a : NamedLft) (E D P : RattleType) (g : engine.Ghosts E.Denot P.Denot)
 
 -- ---- what is behind the lock
 
-commands_send : IsSend commands.the_row
-commands_send = view_send _ _ _ _ _ (declared_send in_commands.the_type (search (command_send, crosses, sendable) depth 20, tt))
-
 client_send : IsSend client.the_row
-client_send = declared_send client.the_type (search sendable, (commands_send, (search sendable, tt)))
+client_send = declared_send client.the_type (search sendable, (remaining.the_send _ command_send, (search sendable, tt)))
 
 fault_send : IsSend fault.the_row
 fault_send = search sendable depth 20

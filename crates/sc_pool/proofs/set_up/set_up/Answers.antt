@@ -1,5 +1,4 @@
 use Rattle.std.proofs.Common.{◌≡◌, List, ◌∷◌, subst, rules}
-use Rattle.std.specs.Vec.Iter.{into_iter_items}
 use Rattle.std.proofs.lemmas.Result.{err_from_is_err_and}
 use Rattle.sc_types.specs.declared.command.Command.{Command}
 use Rattle.sc_pool.specs.SetUps.{MakesPart}
@@ -10,15 +9,15 @@ use Rattle.sc_pool.proofs.set_up.set_up.Goals as goal
 pub loop-command-init : goal.loop-command-init
 loop-command-init g c =
     let seen = (seen_of g.D.Disk.tells g.D.Disk.may_leave g.D.Disk.may_have_left g.D.Disk.moment g.D.Disk.faults g.D.Disk.identity) c.args.book.now in
-    let all : c.args.commands ≡ into_iter_items c.into_iter-command-iterator.result = search rules in
+    let all : c.args.commands ≡ c.new-left.result = search rules in
     subst (λ (xs : List Command). MakesPart c.args.commands xs seen seen) all (nothing_set_up c.args.commands seen)
 
 pub loop-command-preserved : goal.loop-command-preserved
 loop-command-preserved g c =
     let seen = (seen_of g.D.Disk.tells g.D.Disk.may_leave g.D.Disk.may_have_left g.D.Disk.moment g.D.Disk.faults g.D.Disk.identity) in
     let first = c.in-Some.command in
-    let rest = into_iter_items c.next.new.self in
-    let here : into_iter_items c.loop-command.command-iterator ≡ first ∷ rest = c.in-Some.ensures.steps.0 in
+    let rest = c.take_first.new.self in
+    let here : c.loop-command.left ≡ first ∷ rest = c.in-Some.ensures in
     more_set_up c.args.commands first rest (seen c.args.book.now) (seen c.loop-command.book) (seen c.answer.new.book)
     (subst (λ (xs : List Command). MakesPart c.args.commands xs (seen c.args.book.now) (seen c.loop-command.book)) here
     c.loop-command.invariant)
@@ -29,8 +28,8 @@ returns-in_err-answer g c =
     let p = err_from_is_err_and c.from_residual.result c.from_residual.ensures.1 in
     let seen = (seen_of g.D.Disk.tells g.D.Disk.may_leave g.D.Disk.may_have_left g.D.Disk.moment g.D.Disk.faults g.D.Disk.identity) in
     let first = c.in-Some.command in
-    let rest = into_iter_items c.next.new.self in
-    let here : into_iter_items c.loop-command.command-iterator ≡ first ∷ rest = c.in-Some.ensures.steps.0 in
+    let rest = c.take_first.new.self in
+    let here : c.loop-command.left ≡ first ∷ rest = c.in-Some.ensures in
     rw (p.1, p.2) (cut_set_up c.args.commands first rest c.in_err-answer.field-0.0 (seen c.args.book.now) (seen c.loop-command.book)
     (seen c.answer.new.book)
     (subst (λ (xs : List Command). MakesPart c.args.commands xs (seen c.args.book.now) (seen c.loop-command.book)) here

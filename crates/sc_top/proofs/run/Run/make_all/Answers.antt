@@ -1,5 +1,4 @@
 use Rattle.std.proofs.Common.{◌≡◌, List, ◌∷◌, ◌++◌, ap, subst, rules}
-use Rattle.std.specs.Vec.Iter.{into_iter_items}
 use Rattle.std.proofs.lemmas.Result.{err_from_is_err_and}
 use Rattle.sc_types.specs.declared.command.Command.{Command}
 use Rattle.sc_top.specs.Run.{Made, of_client}
@@ -16,13 +15,13 @@ loop-command-preserved g c =
     let new = run_of c.step_all.new.self.book c.step_all.new.self.left in
     let at = c.loop-command.invariant in
     let first = c.in-Some.command in
-    let rest = into_iter_items c.next.new.self in
+    let rest = c.take_first.new.self in
     let stepped = c.in_ok-step_all.ensures in
     let all : List Made → List Made = λ cs. of_client n c.args.commands ++ cs in
     let left : List Made → List Made = λ cs. of_client n rest ++ cs in
     let here : (cs : List Made)
-    → of_client n (into_iter_items c.loop-command.command-iterator) ++ cs ≡ (n, first) ∷ left cs =
-    λ cs. ap (λ (xs : List Command). of_client n xs ++ cs) c.in-Some.ensures.steps.0 in
+    → of_client n c.loop-command.left ++ cs ≡ (n, first) ∷ left cs =
+    λ cs. ap (λ (xs : List Command). of_client n xs ++ cs) c.in-Some.ensures in
     let before : (cs : List Made) → Goes old cur (all cs) ((n, first) ∷ left cs) =
     λ cs. subst (Goes old cur (all cs)) (here cs) (at.goes cs) in
     let made : (cs : List Made) → Goes old mid (all cs) (left cs) =
@@ -50,12 +49,12 @@ returns-in_err-make-clause-stops g c =
     let new = run_of c.make.new.self.book c.make.new.self.left in
     let at = c.loop-command.invariant in
     let first = c.in-Some.command in
-    let rest = into_iter_items c.next.new.self in
+    let rest = c.take_first.new.self in
     let all : List Made → List Made = λ cs. of_client n c.args.commands ++ cs in
     let left : List Made → List Made = λ cs. of_client n rest ++ cs in
     let here : (cs : List Made)
-    → of_client n (into_iter_items c.loop-command.command-iterator) ++ cs ≡ (n, first) ∷ left cs =
-    λ cs. ap (λ (xs : List Command). of_client n xs ++ cs) c.in-Some.ensures.steps.0 in
+    → of_client n c.loop-command.left ++ cs ≡ (n, first) ∷ left cs =
+    λ cs. ap (λ (xs : List Command). of_client n xs ++ cs) c.in-Some.ensures in
     let T = g.D.Disk.tells in
     let L = g.D.Disk.may_leave in
     let S = g.D.Disk.may_have_left in
@@ -76,12 +75,12 @@ returns-in_err-step_all-clause-stops g c =
     let new = run_of c.step_all.new.self.book c.step_all.new.self.left in
     let at = c.loop-command.invariant in
     let first = c.in-Some.command in
-    let rest = into_iter_items c.next.new.self in
+    let rest = c.take_first.new.self in
     let all : List Made → List Made = λ cs. of_client n c.args.commands ++ cs in
     let left : List Made → List Made = λ cs. of_client n rest ++ cs in
     let here : (cs : List Made)
-    → of_client n (into_iter_items c.loop-command.command-iterator) ++ cs ≡ (n, first) ∷ left cs =
-    λ cs. ap (λ (xs : List Command). of_client n xs ++ cs) c.in-Some.ensures.steps.0 in
+    → of_client n c.loop-command.left ++ cs ≡ (n, first) ∷ left cs =
+    λ cs. ap (λ (xs : List Command). of_client n xs ++ cs) c.in-Some.ensures in
     let made : (cs : List Made) → Goes old mid (all cs) (left cs) =
     λ cs. goes_further old cur mid (all cs) ((n, first) ∷ left cs) (left cs)
     (subst (Goes old cur (all cs)) (here cs) (at.goes cs))
@@ -100,7 +99,7 @@ pub loop-command-init : goal.loop-command-init
 loop-command-init g c =
     let old = run_of c.args.self.now.book c.args.self.now.left in
     let n = c.args.client in
-    let all : c.args.commands ≡ into_iter_items c.into_iter-command-iterator.result = search rules in
+    let all : c.args.commands ≡ c.new-left.result = search rules in
     record {
       goes = λ cs. subst (λ (xs : List Command). Goes old old (of_client n c.args.commands ++ cs) (of_client n xs ++ cs)) all
           (goes_nowhere old (of_client n c.args.commands ++ cs));
