@@ -116,10 +116,10 @@ impl Turned {
     }
 
     /// The session after the turn, the effects and the log lines, without a copy.
-    pub fn into_parts(self) -> (SessionState, Sequence<Effect>, Sequence<LogLine>)
+    pub fn into_parts(self) -> (Boxed<SessionState>, Sequence<Effect>, Sequence<LogLine>)
         ensures value { result ≡ (self.after, self.effects, self.logs) }
         ensures turn { IsTurn self }
     {
-        (self.after.into_inner(), self.effects, self.logs)
+        (self.after, self.effects, self.logs)
     }
 }
