@@ -12,6 +12,9 @@ use sc_frame::{put_bytes, put_u64};
 use sc_types::Command;
 use std::alloc::Global;
 
+/// As many bytes as most bodies have at most: their memory is taken at once.
+const USUAL_ROOM: usize = 64;
+
 /// The body of a command, for the journal.
 ///
 /// The length of a name in it and the count of its pairs have 2 bytes, so they are at most 65,535, and the length of a
@@ -20,7 +23,7 @@ pub fn encode(alloc: Global, command: &Command) -> Result<Bytes, NoMemory>
     requires { IsEncodable command.now }
     ensures { IfOk result (λ body. Spells body command.now) }
 {
-    let mut out = Vec::new(alloc);
+    let mut out = Vec::with_capacity(alloc, USUAL_ROOM)?;
     put_command(&mut out, command)?;
     Ok(Bytes::from_vec(out))
 }

@@ -4,11 +4,11 @@ ghost use Rattle.sc_core.specs.Installing.{CanApply, CanApplyAll, HasRoom, HaveR
 
 use crate::body::{Body, InstalledChart};
 use crate::session::Session;
-use sc_base::{Queue, SharedBytes, Word};
+use sc_base::{Boxed, Queue, SharedBytes, Word};
 use sc_types::{Event, SessionState, TimerImage};
 
 /// An elementary change of the host. A command is prepared as a list of them, each to be made of the host that the ones
-/// before it leave.
+/// before it leave. What is large stands in a place of its own, since the list moves all changes of a command.
 #[derive(Drop)]
 pub enum Change<P> {
     /// A command is counted.
@@ -25,18 +25,18 @@ pub enum Change<P> {
     /// A session is started.
     Start {
         name: Word,
-        session: Session,
+        session: Boxed<Session>,
     },
     /// A session is started that the one at a place invoked.
     Bear {
         invoker: usize,
         name: Word,
-        session: Session,
+        session: Boxed<Session>,
     },
     /// The state of the session at a place is replaced.
     PutState {
         place: usize,
-        state: SessionState,
+        state: Boxed<SessionState>,
     },
     /// The front of an external queue is taken.
     TakeFront {
@@ -102,13 +102,13 @@ impl<P: Drop> Body<P> {
             Change::Count => self.count(),
             Change::Advance { clock } => self.advance(clock),
             Change::Install { name, chart } => self.install_chart(name, chart),
-            Change::Start { name, session } => self.start(name, session),
+            Change::Start { name, session } => self.start(name, session.into_inner()),
             Change::Bear {
                 invoker,
                 name,
                 session,
-            } => self.bear(invoker, name, session),
-            Change::PutState { place, state } => self.put_state(place, state),
+            } => self.bear(invoker, name, session.into_inner()),
+            Change::PutState { place, state } => self.put_state(place, state.into_inner()),
             Change::TakeFront { place } => self.take_front(place),
             Change::Queue { place, event } => self.queue(place, event),
             Change::Tell { place, event } => self.tell(place, event),

@@ -17,7 +17,7 @@ use crate::draft::{Draft, Placed};
 use crate::failures::unborn_event;
 use crate::session::{Session, is_running};
 use crate::starts::fresh_state;
-use sc_base::{NoMemory, Plain, Sequence, SharedBytes, Word};
+use sc_base::{Boxed, NoMemory, Plain, Sequence, SharedBytes, Word};
 use sc_rooms::RoomyQueue;
 use sc_types::{Delivery, Event, INVOKE_DEPTH_LIMIT, InvokerImage, PairList, SessionState};
 use std::alloc::Global;
@@ -147,7 +147,7 @@ impl<P: Drop> Body<P> {
         draft.changes.push(Change::Bear {
             invoker: place,
             name: child.copy()?,
-            session,
+            session: Boxed::new(alloc, session)?,
         })?;
         draft.births.push(Placed {
             name: child.copy()?,

@@ -6,7 +6,7 @@ ghost use Rattle.sc_types.specs.declared.host.HostImage.{HostImage};
 
 use crate::change::Change;
 use crate::session::Session;
-use sc_base::{NoMemory, Queue};
+use sc_base::{Boxed, NoMemory, Queue};
 use std::alloc::Global;
 
 /// Whether a change puts an event into the external queue of a session that stands at a place or behind it.
@@ -36,13 +36,19 @@ fn has_past<P>(changes: &Queue<Change<P>>, first: usize) -> bool
 }
 
 /// A session with room for so many events, where it may get some.
-fn with_room(mut session: Session, gets: bool, count: usize) -> Result<Session, NoMemory>
+fn with_room(
+    alloc: Global,
+    session: Boxed<Session>,
+    gets: bool,
+    count: usize,
+) -> Result<Boxed<Session>, NoMemory>
     ensures same { IfOk result (IsRoomier session) }
     ensures room { IfOk result (λ s. gets ≡ true → count ≤ s.queued.spare) }
 {
     if gets {
+        let mut session = session.into_inner();
         session.queued.reserve(count)?;
-        return Ok(session);
+        return Boxed::new(alloc, session);
     }
     Ok(session)
 }
@@ -62,13 +68,18 @@ pub(crate) fn with_rooms<P: Drop>(
     let gets = has_past(&changes, first);
     let mut roomy = Queue::new(alloc);
     while let Some(change) = changes.pop_front() {
-        roomy.push(with_room_in(change, gets, count)?)?;
+        roomy.push(with_room_in(alloc, change, gets, count)?)?;
     }
     Ok(roomy)
 }
 
 /// The same change, with room for so many events in the session that it starts.
-fn with_room_in<P: Drop>(change: Change<P>, gets: bool, count: usize) -> Result<Change<P>, NoMemory>
+fn with_room_in<P: Drop>(
+    alloc: Global,
+    change: Change<P>,
+    gets: bool,
+    count: usize,
+) -> Result<Change<P>, NoMemory>
     ensures alike { IfOk result (IsAlike change) }
     ensures room { IfOk result (λ c. gets ≡ true → HasNewRoom count c) }
 {
@@ -80,11 +91,11 @@ fn with_room_in<P: Drop>(change: Change<P>, gets: bool, count: usize) -> Result<
         } => Ok(Change::Bear {
             invoker,
             name,
-            session: with_room(session, gets, count)?,
+            session: with_room(alloc, session, gets, count)?,
         }),
         Change::Start { name, session } => Ok(Change::Start {
             name,
-            session: with_room(session, gets, count)?,
+            session: with_room(alloc, session, gets, count)?,
         }),
         change => Ok(change),
     }

@@ -109,7 +109,7 @@ impl<P: Drop> Body<P> {
         }
         let change = Change::Start {
             name: session.copy()?,
-            session: fresh_session(alloc, session, chart)?,
+            session: Boxed::new(alloc, fresh_session(alloc, session, chart)?)?,
         };
         Prepared::accepted(alloc, Reply::Started, change)
     }

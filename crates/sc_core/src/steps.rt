@@ -14,7 +14,7 @@ use crate::cues::name_of;
 use crate::draft::Draft;
 use crate::newborns::with_rooms;
 use crate::prepared::Prepared;
-use sc_base::{BoxedSequence, NoMemory, Queue, Sequence};
+use sc_base::{Boxed, BoxedSequence, NoMemory, Queue, Sequence};
 use sc_law::Turned;
 use sc_types::{Cue, Effect, Reply, SessionState};
 use std::alloc::Global;
@@ -24,7 +24,7 @@ fn put_changes<P: Drop>(
     alloc: Global,
     place: usize,
     cue: &Cue,
-    after: SessionState,
+    after: Boxed<SessionState>,
 ) -> Result<Queue<Change<P>>, NoMemory>
     ensures { IfOk result (λ cs. cs ≡ put_changes place cue.now after) }
 {
@@ -100,8 +100,8 @@ impl<P: Drop> Body<P> {
         let (after, effects, logs) = turned.into_parts();
         // A length fits a usize, so the numbers of events cannot run out.
         let _count = effects.len();
-        let mut draft = self.draft_effects(alloc, place, &after, effects)?;
-        self.draft_end(alloc, &mut draft, place, &after)?;
+        let mut draft = self.draft_effects(alloc, place, after.get(), effects)?;
+        self.draft_end(alloc, &mut draft, place, after.get())?;
         let mut changes = put_changes(alloc, place, cue, after)?;
         // A step makes three changes beside those of its effects and of its end, and no more than a usize counts.
         let count = draft.changes.len().saturating_add(3);

@@ -73,6 +73,7 @@ fn round(
 }
 
 /// What is to be done: so many rounds of a kind of command in a host of so many sessions, to the first ones in turn.
+#[derive(Drop)]
 pub struct Task<'t> {
     pub kind: &'t str,
     pub sessions: u32,

@@ -76,7 +76,7 @@ fn next(alloc: Global, plan: &Plan, before: &SessionState, cue: &Cue) -> Option<
     ensures { IfSome result (Waits plan.now) }
 {
     match Compiled.turn(alloc, plan, before, cue) {
-        Ok(turned) => waiting(turned.into_parts().0),
+        Ok(turned) => waiting(turned.into_parts().0.into_inner()),
         Err(NoMemory) => None,
     }
 }
