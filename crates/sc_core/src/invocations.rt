@@ -38,7 +38,7 @@ fn child_session(
     invoker: &Word,
     depth: u32,
     invocation: Invocation,
-) -> Result<Session, NoMemory>
+) -> Result<Boxed<Session>, NoMemory>
     ensures image { IfOk result (λ s. session_image s ≡ record {
       state = fresh_state invocation.child invocation.chart invocation.pairs;
       queued = [];
@@ -59,7 +59,7 @@ fn child_session(
         invokeid,
         cut: false,
     };
-    Ok(Session {
+    let session = Session {
         state: fresh_state(alloc, &child, &chart, pairs)?,
         failures: RoomyQueue::new(alloc),
         queued: RoomyQueue::new(alloc),
@@ -67,7 +67,8 @@ fn child_session(
         invoker: Some(link),
         depth,
         children: RoomyQueue::new(alloc),
-    })
+    };
+    Boxed::new(alloc, session)
 }
 
 impl<P: Drop> Body<P> {
@@ -147,7 +148,7 @@ impl<P: Drop> Body<P> {
         draft.changes.push(Change::Bear {
             invoker: place,
             name: child.copy()?,
-            session: Boxed::new(alloc, session)?,
+            session,
         })?;
         draft.births.push(Placed {
             name: child.copy()?,

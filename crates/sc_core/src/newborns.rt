@@ -35,7 +35,16 @@ fn has_past<P>(changes: &Queue<Change<P>>, first: usize) -> bool
     false
 }
 
-/// A session with room for so many events, where it may get some.
+/// A session with room for so many more events.
+fn with_more_room(mut session: Session, count: usize) -> Result<Session, NoMemory>
+    ensures same { IfOk result (IsRoomier session) }
+    ensures room { IfOk result (λ s. count ≤ s.queued.spare) }
+{
+    session.queued.reserve(count)?;
+    Ok(session)
+}
+
+/// The same, where it may get some.
 fn with_room(
     alloc: Global,
     session: Boxed<Session>,
@@ -46,9 +55,7 @@ fn with_room(
     ensures room { IfOk result (λ s. gets ≡ true → count ≤ s.queued.spare) }
 {
     if gets {
-        let mut session = session.into_inner();
-        session.queued.reserve(count)?;
-        return Boxed::new(alloc, session);
+        return Boxed::new(alloc, with_more_room(session.into_inner(), count)?);
     }
     Ok(session)
 }

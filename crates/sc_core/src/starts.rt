@@ -109,7 +109,7 @@ impl<P: Drop> Body<P> {
         }
         let change = Change::Start {
             name: session.copy()?,
-            session: Boxed::new(alloc, fresh_session(alloc, session, chart)?)?,
+            session: fresh_session(alloc, session, chart)?,
         };
         Prepared::accepted(alloc, Reply::Started, change)
     }
@@ -147,11 +147,11 @@ pub(crate) fn fresh_state(
     })
 }
 
-fn fresh_session(alloc: Global, session: &Word, chart: &Word) -> Result<Session, NoMemory>
+fn fresh_session(alloc: Global, session: &Word, chart: &Word) -> Result<Boxed<Session>, NoMemory>
     ensures image { IfOk result (λ s. session_image s ≡ fresh_session session.now chart.now) }
     ensures children { IfOk result (λ s. s.children.items ≡ []) }
 {
-    Ok(Session {
+    let session = Session {
         state: fresh_state(alloc, session, chart, Sequence::new(alloc))?,
         failures: RoomyQueue::new(alloc),
         queued: RoomyQueue::new(alloc),
@@ -159,5 +159,6 @@ fn fresh_session(alloc: Global, session: &Word, chart: &Word) -> Result<Session,
         invoker: None,
         depth: 1,
         children: RoomyQueue::new(alloc),
-    })
+    };
+    Boxed::new(alloc, session)
 }

@@ -19,17 +19,18 @@ start-requires-clause-new g c =
 pub put_state-requires-clause-name : goal.put_state-requires-clause-name
 put_state-requires-clause-name g c =
     let can = subst (CanApply (image c.args.self.now)) c.in-PutState.is c.requires.can in
-    name_there c.args.self.now c.in-PutState.place c.in-PutState.state.session c.requires.agrees can.1
+    rw c.into_inner-in-PutState.ensures
+    (name_there c.args.self.now c.in-PutState.place c.in-PutState.state.session c.requires.agrees can.1)
 
 pub start-requires-clause-invoker : goal.start-requires-clause-invoker
 start-requires-clause-invoker g c =
     let can = subst (CanApply (image c.args.self.now)) c.in-Start.is c.requires.can in
-    can.2
+    rw c.into_inner.ensures can.2
 
 pub start-requires-clause-children : goal.start-requires-clause-children
 start-requires-clause-children g c =
     let can = subst (CanApply (image c.args.self.now)) c.in-Start.is c.requires.can in
-    can.3
+    rw c.into_inner.ensures can.3
 
 pub bear-requires-clause-new : goal.bear-requires-clause-new
 bear-requires-clause-new g c =
@@ -39,12 +40,12 @@ bear-requires-clause-new g c =
 pub bear-requires-clause-invoker : goal.bear-requires-clause-invoker
 bear-requires-clause-invoker g c =
     let can = subst (CanApply (image c.args.self.now)) c.in-Bear.is c.requires.can in
-    can.2
+    rw c.into_inner-in-Bear.ensures can.2
 
 pub bear-requires-clause-children : goal.bear-requires-clause-children
 bear-requires-clause-children g c =
     let can = subst (CanApply (image c.args.self.now)) c.in-Bear.is c.requires.can in
-    can.3
+    rw c.into_inner-in-Bear.ensures can.3
 
 pub bear-requires-clause-within : goal.bear-requires-clause-within
 bear-requires-clause-within g c =
