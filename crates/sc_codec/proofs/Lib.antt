@@ -1,5 +1,6 @@
 pub mod Commands
 pub mod Fields
+pub mod Lengths
 pub mod Loop
 pub mod Names
 pub mod Pairs

@@ -140,7 +140,7 @@ move_given : (done : List Entry) (g h : HostImage) (given : List Gift) → Move 
 move_given done g h given (still sessions events charts commands is) gift all = subst (AllByRecursion (QueueWasGiven done)) (sym sessions) all
 move_given done g h given (puts place s put there named kept fits sessions events charts commands is) gift all =
     put_given done g h place s put there named (λ P. kept_given P s.queued put.queued kept) sessions all
-move_given done g h given (bears s queued new fits sessions events charts commands is) gift all =
+move_given done g h given (bears s queued new short fits sessions events charts commands is) gift all =
     subst (AllByRecursion (QueueWasGiven done)) (sym sessions)
     (all_push (QueueWasGiven done) g.sessions s all
     (subst (AllByRecursion (WasGiven done s.state.session)) (sym queued) tt))

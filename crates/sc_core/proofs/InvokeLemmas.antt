@@ -1,5 +1,5 @@
 -- What is prepared of an invocation is what the host machine does.
-use Rattle.std.proofs.Common.{◌≡◌, ℕ, ◌+◌, ◌<◌, ◌++◌, ◌&&◌, true, false, nat_lt, not, is_some, if◌then◌else◌, Option, Some, None, option_map, List, [], ◌∷◌, length, map, slice_get, slice_set, refl, arith, sym, ap, subst, ◌∙◌, Bool, suc, zero}
+use Rattle.std.proofs.Common.{◌≡◌, ℕ, ◌+◌, ◌<◌, ◌++◌, true, false, if◌then◌else◌, Option, Some, None, option_map, List, [], ◌∷◌, length, map, slice_get, slice_set, refl, arith, sym, ap, subst, ◌∙◌, suc, zero}
 use Rattle.std.specs.Option.{option_map_or}
 use Rattle.std.specs.Str.{bytes_eq}
 use Rattle.std.proofs.lemmas.Option.{same_Some, slice_get_within}
@@ -8,7 +8,6 @@ use Rattle.sc_types.specs.declared.event.Event.{Event}
 use Rattle.sc_types.specs.declared.history.Delivery.TheVariants.{Born, Flagged, Unborn}
 use Rattle.sc_types.specs.declared.host.HostImage.{HostImage}
 use Rattle.sc_types.specs.declared.host.SessionImage.{SessionImage}
-use Rattle.sc_types.specs.declared.limits.TheConstants.{INVOKE_DEPTH_LIMIT}
 use Rattle.sc_types.specs.declared.session.SessionState.{SessionState}
 use Rattle.sc_types.specs.declared.value.Value.{Value}
 use Rattle.sc_law.specs.Runs.{fresh_state}
@@ -17,7 +16,7 @@ use Rattle.sc_core.specs.Bodies.{session_image}
 use Rattle.sc_core.specs.Changes.{drop_invoke, tell, with_started}
 use Rattle.sc_core.specs.Deliveries.{born, cancel_child, child_session, cut_off, invoke, live_child, may_bear, unborn, unborn_event, while_live, without_invoke}
 use Rattle.sc_core.specs.Drafts.{Drafts, Follows, IsDraft, IsSender, Stepper, own, so_far}
-use Rattle.sc_core.specs.Hosts.{has_chart, is_running, session_named, session_place, with_session}
+use Rattle.sc_core.specs.Hosts.{is_running, session_named, session_place, with_session}
 use Rattle.sc_core.specs.Installing.{IsChildAt}
 use Rattle.sc_core.specs.declared.change.Change.{Change}
 use Rattle.sc_core.specs.declared.change.Change.TheVariants.{Bear, CutOff, DropInvoke, Tell}
@@ -214,13 +213,6 @@ unborn_drafted {P = P} who g old new t id child e draft there within running is 
     record { draft = more.0; host = more.1; told = refl; sent = ap (λ (x : Draft P). x.sent) made }
 
 -- which of the two it is
-pub may_is : (h : HostImage) (t : SessionImage) (child chart : List ℕ) (has deep taken : Bool)
-    → has_chart h chart ≡ has → nat_lt t.depth INVOKE_DEPTH_LIMIT ≡ deep → is_some (session_place h child) ≡ taken
-    → may_bear h t child chart ≡ (has && deep && not taken)
-may_is h t child chart has deep taken one two three =
-    ap (λ b. b && nat_lt t.depth INVOKE_DEPTH_LIMIT && not (is_some (session_place h child))) one
-    ∙ ap (λ b. has && b && not (is_some (session_place h child))) two ∙ ap (λ b. has && deep && not b) three
-
 pub invoke_born : (h : HostImage) (place : ℕ) (t : SessionImage) (id child chart : List ℕ) (pairs : List (List ℕ × Value))
     → may_bear h t child chart ≡ true → invoke h place t id child chart pairs ≡ born h t id child chart pairs
 invoke_born h place t id child chart pairs may =

@@ -17,6 +17,7 @@ pub mod HeldLemmas
 pub mod InstallLemmas
 pub mod InvokeLemmas
 pub mod LeftLemmas
+pub mod LengthLemmas
 pub mod LoopLemmas
 pub mod MoveLemmas
 pub mod NameLemmas

@@ -1,8 +1,9 @@
 -- What the host machine does to the sessions: each delivery is one move of a few kinds.
-use Rattle.std.proofs.Common.{is_some, map, length-append, ◌≡◌, ℕ, ◌+◌, ◌==◌, ◌&&◌, Bool, true, false, Option, Some, None, if◌then◌else◌, List, [], ◌∷◌, ◌++◌, slice_get, slice_set, refl, sym, ap, subst, ◌∙◌, nat_lt, ◌-◌, ◌^◌, filter, not, ◌≤◌, All, get_or, length, arith}
+use Rattle.std.proofs.Common.{is_some, map, length-append, ◌≡◌, ℕ, ◌+◌, ◌==◌, ◌&&◌, Bool, true, false, Option, Some, None, if◌then◌else◌, List, [], ◌∷◌, ◌++◌, slice_get, slice_set, refl, sym, ap, subst, ◌∙◌, nat_le, nat_lt, ◌-◌, ◌^◌, filter, not, ◌≤◌, All, get_or, length, arith}
 use Rattle.std.specs.List.{flat_map}
 use Rattle.std.specs.Option.{option_map_or}
 use Rattle.std.specs.Str.{bytes_eq}
+use Rattle.std.proofs.lemmas.Bool.{leb-true}
 use Rattle.std.proofs.lemmas.List.Elements.{All-map, All-push, All-set}
 use Rattle.sc_types.specs.Sends.{with_send}
 use Rattle.sc_types.specs.declared.effect.Effect.{Effect}
@@ -21,6 +22,7 @@ use Rattle.sc_types.specs.declared.host.TimerImage.{TimerImage}
 use Rattle.sc_types.specs.declared.host.To.{To}
 use Rattle.sc_types.specs.declared.session.Phase.{Phase}
 use Rattle.sc_types.specs.declared.session.Phase.TheVariants as phase
+use Rattle.sc_core.specs.declared.invocations.TheConstants.{CHILD_NAME_LIMIT}
 use Rattle.sc_core.specs.Deliveries.{Delivered, born, cancel_child, child_session, cut_off, deliver, deliver_all, deliver_of, delay_send, due_time, fire, fire_all, hand_to, hears, invoke, may_bear, told, unborn, unborn_event, without_invoke, is_cut_from, is_due, left_as, next_send, queue, arriving, receiver_name, send_found, send_named, send_now, undo, unreachable, while_live}
 use Rattle.sc_core.specs.Endings.{cleared, end_at, end_event, end_in, end_with, is_left_by, one_delivery, tell_end, tell_invoker, with_children_left}
 use Rattle.sc_core.specs.Hosts.{has_chart, is_live, is_running, session_named, session_place, with_session}
@@ -53,7 +55,8 @@ pub data Move (g h : HostImage) (given : List Gift) : Type 0 where
       → h.commands ≡ g.commands → given ≡ [] → Move g h given
   queues : (place : ℕ) (s : SessionImage) (e : Event) → slice_get g.sessions place ≡ Some s
       → h ≡ queue g place s e → given ≡ (g.events + 1, s.state.session) ∷ [] → Move g h given
-  bears : (s : SessionImage) → s.queued ≡ [] → session_place g s.state.session ≡ None → FitsChart g s → h.sessions ≡ g.sessions ++ s ∷ []
+  bears : (s : SessionImage) → s.queued ≡ [] → session_place g s.state.session ≡ None
+      → length s.state.session ≤ CHILD_NAME_LIMIT → FitsChart g s → h.sessions ≡ g.sessions ++ s ∷ []
       → h.events ≡ g.events → h.charts ≡ g.charts → h.commands ≡ g.commands → given ≡ [] → Move g h given
   parts : (f : SessionImage → SessionImage) → ((s : SessionImage) → IsParted g s (f s))
       → h.sessions ≡ map f g.sessions → h.events ≡ g.events → h.charts ≡ g.charts → h.commands ≡ g.commands
@@ -156,9 +159,13 @@ invoke_moves g place s id child chart pairs there = by (may_bear g s child chart
   by : (may : Bool) → may_bear g s child chart ≡ may
       → IsMove g (if may then born g s id child chart pairs else unborn g place s id child)
   by true may =
-      let new = both_hold (has_chart g chart && nat_lt s.depth INVOKE_DEPTH_LIMIT) (not (is_some (session_place g child))) may in
-      let has = both_hold (has_chart g chart) (nat_lt s.depth INVOKE_DEPTH_LIMIT) new.0 in
+      let fits = nat_le (length child) CHILD_NAME_LIMIT in
+      let new =
+      both_hold (has_chart g chart && nat_lt s.depth INVOKE_DEPTH_LIMIT && fits) (not (is_some (session_place g child))) may in
+      let short = both_hold (has_chart g chart && nat_lt s.depth INVOKE_DEPTH_LIMIT) fits new.0 in
+      let has = both_hold (has_chart g chart) (nat_lt s.depth INVOKE_DEPTH_LIMIT) short.0 in
       bears (child_session s id child chart pairs) refl (none_there (session_place g child) new.1)
+      (leb-true (length child) CHILD_NAME_LIMIT short.1)
       (record { chart = has.0; fits = λ live. fresh refl }) refl refl refl refl refl
   by false may = unborn_moves g place s id child there
 
@@ -332,7 +339,7 @@ fits_moved g h given (queues place s e there is gift) all =
     subst (λ (x : HostImage). All (FitsChart x) x.sessions) (sym is)
     (All-set (FitsChart q) g.sessions place _ (fits-same g q _ refl (record { chart = own.chart; fits = own.fits }))
     (λ i d l. fits-same g q (get_or g.sessions i d) refl (all i d l)))
-fits_moved g h given (bears s queued new fits sessions events charts commands is) all =
+fits_moved g h given (bears s queued new short fits sessions events charts commands is) all =
     subst (All (FitsChart h)) (sym sessions)
     (All-push (FitsChart h) g.sessions s (λ i d l. fits-same g h (get_or g.sessions i d) charts (all i d l))
     (fits-same g h s charts fits))
@@ -352,7 +359,7 @@ fits_moves g h given (goes m front rest one others is) all =
 pub charts_moved : (g h : HostImage) (given : List Gift) → Move g h given → h.charts ≡ g.charts
 charts_moved g h given (still sessions events charts commands is) = charts
 charts_moved g h given (puts place s put there named kept fits sessions events charts commands is) = charts
-charts_moved g h given (bears s queued new fits sessions events charts commands is) = charts
+charts_moved g h given (bears s queued new short fits sessions events charts commands is) = charts
 charts_moved g h given (parts f part sessions events charts commands is) = charts
 charts_moved g h given (queues place s e there is gift) = ap (λ (x : HostImage). x.charts) is
 
@@ -365,7 +372,7 @@ charts_moves g h given (goes m front rest one others is) = charts_moves m h rest
 pub events_moved : (g h : HostImage) (given : List Gift) → Move g h given → h.events ≤ g.events + 1
 events_moved g h given (still sessions events charts commands is) = omega (arith, events)
 events_moved g h given (puts place s put there named kept fits sessions events charts commands is) = omega (arith, events)
-events_moved g h given (bears s queued new fits sessions events charts commands is) = omega (arith, events)
+events_moved g h given (bears s queued new short fits sessions events charts commands is) = omega (arith, events)
 events_moved g h given (parts f part sessions events charts commands is) = omega (arith, events)
 events_moved g h given (queues place s e there is gift) = omega (arith, ap (λ (x : HostImage). x.events) is)
 
@@ -373,7 +380,7 @@ events_moved g h given (queues place s e there is gift) = omega (arith, ap (λ (
 events_told : (g h : HostImage) (given : List Gift) → Move g h given → h.events ≤ g.events + length given
 events_told g h given (still sessions events charts commands is) = omega (arith, events)
 events_told g h given (puts place s put there named kept fits sessions events charts commands is) = omega (arith, events)
-events_told g h given (bears s queued new fits sessions events charts commands is) = omega (arith, events)
+events_told g h given (bears s queued new short fits sessions events charts commands is) = omega (arith, events)
 events_told g h given (parts f part sessions events charts commands is) = omega (arith, events)
 events_told g h given (queues place s e there is gift) =
     omega (arith, ap (λ (x : HostImage). x.events) is, ap length gift)
@@ -382,7 +389,7 @@ events_told g h given (queues place s e there is gift) =
 pub commands_moved : (g h : HostImage) (given : List Gift) → Move g h given → h.commands ≡ g.commands
 commands_moved g h given (still sessions events charts commands is) = commands
 commands_moved g h given (puts place s put there named kept fits sessions events charts commands is) = commands
-commands_moved g h given (bears s queued new fits sessions events charts commands is) = commands
+commands_moved g h given (bears s queued new short fits sessions events charts commands is) = commands
 commands_moved g h given (parts f part sessions events charts commands is) = commands
 commands_moved g h given (queues place s e there is gift) = ap (λ (x : HostImage). x.commands) is
 

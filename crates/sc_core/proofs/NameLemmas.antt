@@ -116,7 +116,8 @@ find_passes p (x ∷ xs) s found = by_test (p x) refl (λ behind. find_passes p 
   by_test true e others = ap p (sym (same_Some x s (sym (ap (λ b. cond b (Some x) (find p xs)) e) ∙ found))) ∙ e
   by_test false e others = others (sym (ap (λ b. cond b (Some x) (find p xs)) e) ∙ found)
 
-has_cue : (o : Option Cue) → is_some o ≡ true → (cue : Cue) × (o ≡ Some cue)
+-- a cue that is there
+pub has_cue : (o : Option Cue) → is_some o ≡ true → (cue : Cue) × (o ≡ Some cue)
 has_cue None h = absurd (cc)
 has_cue (Some cue) h = (cue, refl)
 
@@ -125,7 +126,8 @@ ready_session : (g : HostImage) (name : List ℕ) (o : Option SessionImage) → 
 ready_session g name None e h = absurd (cc)
 ready_session g name (Some s) e h = (s, e, same_Some s.state.session name h)
 
-placed : (g : HostImage) (name : List ℕ) (s : SessionImage) → find (is_session_named name) g.sessions ≡ Some s
+-- the session that a name finds, with its place
+pub placed : (g : HostImage) (name : List ℕ) (s : SessionImage) → find (is_session_named name) g.sessions ≡ Some s
     → session_named g name ≡ Some (position_or_len (is_session_named name) g.sessions, s)
 placed g name s found =
     let p = is_session_named name in
@@ -194,7 +196,7 @@ pub distinct_moved : (g h : HostImage) (given : List Gift) → Move g h given �
 distinct_moved g h given (still sessions events charts commands is) distinct = subst AreDistinct (sym sessions) distinct
 distinct_moved g h given (puts place s put there named kept fits sessions events charts commands is) distinct =
     subst AreDistinct (sym sessions) (distinct_set g.sessions place s put there named distinct)
-distinct_moved g h given (bears s queued new fits sessions events charts commands is) distinct =
+distinct_moved g h given (bears s queued new short fits sessions events charts commands is) distinct =
     subst AreDistinct (sym sessions) (distinct_push g.sessions s (none_named s.state.session g.sessions new) distinct)
 distinct_moved g h given (parts f part sessions events charts commands is) distinct =
     subst AreDistinct (sym sessions) (distinct_parted f (λ s. (part s).named) g.sessions distinct)

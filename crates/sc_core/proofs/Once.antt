@@ -103,7 +103,7 @@ few_moved n done g h given (still sessions events charts commands is) few =
 few_moved n done g h given (puts place s put there named kept fits sessions events charts commands is) few =
     let moved = put_few n done 0 g h place s put there (omega (arith, kept_fewer n s.queued put.queued kept)) sessions events few in
     record { once = omega (arith, moved.once); none = λ below. omega (arith, moved.none below) }
-few_moved n done g h given (bears s queued new fits sessions events charts commands is) few =
+few_moved n done g h given (bears s queued new short fits sessions events charts commands is) few =
     let f = λ (x : SessionImage). in_queue n x.queued in
     let total = sum_by_push f g.sessions s in
     let none : in_queue n s.queued ≡ 0 = ap (in_queue n) queued in

@@ -1,6 +1,6 @@
 -- How the host carries out what a turn asks for (SCXML 6.2, 6.3, 6.4 and C.1). The order of the tests, and which of them
 -- tells the sender, is this host's own rule.
-use Rattle.std.specs.Prelude.{ℕ, ◌+◌, ◌-◌, ◌^◌, ◌==◌, ◌&&◌, Bool, false, true, not, if◌then◌else◌, min, nat_le, nat_lt, Option, Some, None, is_some, option_map, List, [], ◌∷◌, ◌++◌, codes, count_by, filter, slice_get}
+use Rattle.std.specs.Prelude.{ℕ, ◌+◌, ◌-◌, ◌^◌, ◌==◌, ◌&&◌, Bool, false, true, not, if◌then◌else◌, min, nat_le, nat_lt, Option, Some, None, is_some, option_map, List, [], ◌∷◌, ◌++◌, codes, count_by, filter, length, slice_get}
 use Rattle.std.specs.Option.{option_map_or}
 use Rattle.std.specs.Str.{bytes_eq}
 use Rattle.sc_types.specs.Sends.{is_send, with_send}
@@ -20,6 +20,7 @@ use Rattle.sc_types.specs.declared.limits.TheConstants.{INVOKE_DEPTH_LIMIT}
 use Rattle.sc_types.specs.declared.session.Invoked.{Invoked}
 use Rattle.sc_types.specs.declared.value.Value.{Value}
 use Rattle.sc_law.specs.Runs.{fresh_state, platform_event}
+use Rattle.sc_core.specs.declared.invocations.TheConstants.{CHILD_NAME_LIMIT}
 use Rattle.sc_core.specs.Hosts.{has_chart, is_live, is_running, session_named, session_place, with_session}
 
 -- the host after one delivery, and what became of it
@@ -152,10 +153,12 @@ abbrev pub told : Event → SessionImage → SessionImage
 told e s =
     if is_running s.state.phase then record s { state = record s.state { internal = s.state.internal ++ e ∷ [] } } else s
 
--- 6.4: the chart is installed, the child is not too deep, and its name is new. A session counts its children, and no
--- client starts a session of such a name, so that a name which is taken never comes.
+-- 6.4: the chart is installed, the child is not too deep, and its name is short and new. A session counts its children,
+-- and no client starts a session of such a name, so that a name which is too long or taken never comes.
 abbrev pub may_bear : HostImage → SessionImage → List ℕ → List ℕ → Bool
-may_bear g s child chart = has_chart g chart && nat_lt s.depth INVOKE_DEPTH_LIMIT && not (is_some (session_place g child))
+may_bear g s child chart =
+    has_chart g chart && nat_lt s.depth INVOKE_DEPTH_LIMIT && nat_le (length child) CHILD_NAME_LIMIT
+    && not (is_some (session_place g child))
 
 abbrev pub born : HostImage → SessionImage → List ℕ → List ℕ → List ℕ → List (List ℕ × Value) → Delivered
 born g s id child chart pairs = record {

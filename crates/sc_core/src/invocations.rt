@@ -22,6 +22,9 @@ use sc_rooms::RoomyQueue;
 use sc_types::{Delivery, Event, INVOKE_DEPTH_LIMIT, InvokerImage, PairList, SessionState};
 use std::alloc::Global;
 
+/// The most bytes of the name of an invoked session.
+const CHILD_NAME_LIMIT: usize = 65_535;
+
 /// A session to be started: the id of the invocation, the session's name, its chart's, and what it is started with.
 /// SCXML 6.4.
 #[derive(Debug, Drop)]
@@ -105,6 +108,7 @@ impl<P: Drop> Body<P> {
     {
         self.has_chart(&invocation.chart)
             && depth < INVOKE_DEPTH_LIMIT
+            && invocation.child.bytes().len() <= CHILD_NAME_LIMIT
             && !self.is_taken(births, &invocation.child)
     }
 

@@ -1,5 +1,6 @@
-use Rattle.std.proofs.Common.{◌≡◌, ◌&&◌, false, true, not, is_some, nat_lt, slice_get, sym, ◌∙◌}
+use Rattle.std.proofs.Common.{◌≡◌, ◌&&◌, false, true, not, is_some, length, nat_le, nat_lt, slice_get, sym, ◌∙◌}
 use Rattle.sc_types.specs.declared.limits.TheConstants.{INVOKE_DEPTH_LIMIT}
+use Rattle.sc_core.specs.declared.invocations.TheConstants.{CHILD_NAME_LIMIT}
 use Rattle.sc_core.specs.Bodies.{image}
 use Rattle.sc_core.specs.Deliveries.{born, invoke, may_bear, unborn}
 use Rattle.sc_core.specs.Drafts.{so_far, stepper}
@@ -23,7 +24,7 @@ draft_birth-requires-clause-new g c = λ h t sender.
     (sender_grown before c.args.place after h old t sender) (sender.draft.follows.charts ∙ sender.base.charts)
     (depth_at before c.args.place found.session t _ found.there found.is.depth c.depth_at-depth.ensures)) in
     none_there (session_place (so_far h old) w.child)
-    (both_hold (has_chart (so_far h old) w.chart && nat_lt t.depth INVOKE_DEPTH_LIMIT)
+    (both_hold (has_chart (so_far h old) w.chart && nat_lt t.depth INVOKE_DEPTH_LIMIT && nat_le (length w.child) CHILD_NAME_LIMIT)
     (not (is_some (session_place (so_far h old) w.child))) may).1
 
 pub returns-then-not-may_bear-clause-told : goal.returns-then-not-may_bear-clause-told

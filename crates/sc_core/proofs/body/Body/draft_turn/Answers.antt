@@ -34,14 +34,19 @@ returns-clause-step g c = λ s there.
     let named : t.after.session ≡ s.state.session =
     same_Some t.after.session s.state.session
     (sym c.requires.there ∙ ap (λ o. option_map (λ (x : SessionImage). x.state.session) o) there) in
-    let drafted = turn_drafted before place s cue d c.into_parts-after.result t parts there c.requires.numbers
+    let seen : c.get.result.now ≡ t.after = c.get.ensures ∙ ap (λ x. x.0) parts in
+    let again : c.get-2.result.now ≡ t.after = c.get-2.ensures ∙ ap (λ x. x.0) parts in
+    let given : SessionState × List Effect × List LogLine =
+    (c.get.result.now, c.into_parts-after.result.1, c.into_parts-after.result.2) in
+    let given_is : given ≡ (t.after, t.effects, t.logs) = λ k. (seen k, (parts k).1, (parts k).2) in
+    let drafted = turn_drafted before place s cue d given t given_is there c.requires.numbers
     c.in_ok-draft.ensures.all in
     let base = put_base before place s cue t there c.requires.numbers in
     let sender = sender_at before place t.after (with_session before place (put_in s cue t)) d base drafted.draft
     (slice_get_within before.sessions place s there) in
     let b = with_session before place (put_in s cue t) in
     let ends = c.in_ok-draft_end.ensures b sender.0
-    (subst (λ (x : SessionState × List Effect × List LogLine). IsSender before place x.0 b d sender.0) (sym parts) sender.1) in
+    (subst (λ (x : SessionState). IsSender before place x b d sender.0) (sym again) sender.1) in
     let first : c.len-2.result ≡ length before.sessions =
     c.len-2.ensures.items ∙ sym (map_long session_image c.args.self.now.sessions.items) in
     let roomy = subst (λ n. (h : HostImage) → length h.sessions ≡ n → CanApplyAll h e.changes
@@ -65,7 +70,7 @@ returns-clause-step g c = λ s there.
     there drafted ends c.in_ok-more.ensures.alike enough roomy in
     step_prepared before place s cue t c.in_ok-more.more _ _ there named c.requires.commands refl
     (turn_counted before place s cue t d drafted) whole
-    changes (ap Stepped c.name_of.ensures) (ap (λ x. x.2) parts) (turn_sent before place s cue t d e drafted ends)
+    (c.changes-3.view_is ∙ changes) (ap Stepped c.name_of.ensures) (c.in_ok-new.ensures ∙ ap (λ x. x.2) parts) (turn_sent before place s cue t d e drafted ends)
 
 pub returns-clause-none : goal.returns-clause-none
 returns-clause-none g c = λ chart_of.
@@ -80,13 +85,18 @@ returns-clause-none g c = λ chart_of.
     let found = some_map _ t.after.session c.requires.there in
     let s = found.0 in
     let there = found.1 in
-    let drafted = turn_drafted before place s cue d c.into_parts-after.result t parts there c.requires.numbers
+    let seen : c.get.result.now ≡ t.after = c.get.ensures ∙ ap (λ x. x.0) parts in
+    let again : c.get-2.result.now ≡ t.after = c.get-2.ensures ∙ ap (λ x. x.0) parts in
+    let given : SessionState × List Effect × List LogLine =
+    (c.get.result.now, c.into_parts-after.result.1, c.into_parts-after.result.2) in
+    let given_is : given ≡ (t.after, t.effects, t.logs) = λ k. (seen k, (parts k).1, (parts k).2) in
+    let drafted = turn_drafted before place s cue d given t given_is there c.requires.numbers
     c.in_ok-draft.ensures.all in
     let base = put_base before place s cue t there c.requires.numbers in
     let b = with_session before place (put_in s cue t) in
     let sender = sender_at before place t.after b d base drafted.draft (slice_get_within before.sessions place s there) in
     let ends = c.in_ok-draft_end.ensures b sender.0
-    (subst (λ (x : SessionState × List Effect × List LogLine). IsSender before place x.0 b d sender.0) (sym parts) sender.1) in
+    (subst (λ (x : SessionState). IsSender before place x b d sender.0) (sym again) sender.1) in
     let first : c.len-2.result ≡ length before.sessions =
     c.len-2.ensures.items ∙ sym (map_long session_image c.args.self.now.sessions.items) in
     let roomy = subst (λ n. (h : HostImage) → length h.sessions ≡ n → CanApplyAll h e.changes
@@ -108,4 +118,4 @@ returns-clause-none g c = λ chart_of.
     ) in
     let whole = turn_whole before place s cue t d e more (length (step_changes place cue t.after more)) c.saturating_add-count.result
     there drafted ends c.in_ok-more.ensures.alike enough roomy in
-    subst (ArePlanned chart_of) (sym changes) (step_none place cue t.after c.in_ok-more.more whole.none chart_of)
+    subst (ArePlanned chart_of) (sym (c.changes-3.view_is ∙ changes)) (step_none place cue t.after c.in_ok-more.more whole.none chart_of)
