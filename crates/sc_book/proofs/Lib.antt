@@ -1,4 +1,5 @@
 pub mod AnswerLemmas
+pub mod BodyLemmas
 pub mod BookLemmas
 pub mod ClaimLemmas
 pub mod OpenLemmas

@@ -1,12 +1,15 @@
 -- A command that is answered, with its receipt and its body for the journal. Only private clauses cite these definitions.
 use Rattle.std.specs.Prelude.{ℕ, ◌≡◌, ◌≤◌, Bool, true, false, Option, None, Some, List, length}
+use Rattle.std.specs.List.{list_all}
 use Rattle.sc_book.specs.declared.draft.Draft.{Draft}
 use Rattle.sc_book.specs.declared.receipt.Receipt.{Receipt}
-use Rattle.sc_codec.specs.Bodies.{Spells}
+use Rattle.sc_codec.specs.Bodies.{IsEncodable, Spells, body_of}
 use Rattle.sc_core.specs.Accepted.{is_accepted}
 use Rattle.sc_core.specs.Commands.{Answer}
 use Rattle.sc_core.specs.Preparing.{Prepares}
+use Rattle.sc_types.specs.Values.{fits}
 use Rattle.sc_types.specs.declared.command.Command.{Command}
+use Rattle.sc_types.specs.declared.command.Command.TheVariants.{Post}
 use Rattle.sc_types.specs.declared.host.HostImage.{HostImage}
 
 -- a receipt has this number and tells this answer
@@ -15,6 +18,16 @@ pub record Confirms (n : ℕ) (a : Answer) (r : Receipt) : Type 0 where
   pub reply : r.reply ≡ a.reply
   pub logs : r.logs ≡ a.logs
   pub sent : r.sent ≡ a.sent
+
+-- each value in a command is within the limits of values
+abbrev pub has_fitting_values : Command → Bool
+has_fitting_values (Post session event pairs) = list_all (λ p. fits p.1) pairs
+has_fitting_values c = true
+
+-- with such values a command has a body, and an entry of the journal can have it
+pub record FitsEntry (c : Command) : Type 0 where
+  pub encodable : has_fitting_values c ≡ true → IsEncodable c
+  pub most : length (body_of c) ≤ 2097152
 
 -- these bytes are the body of this command, and an entry of the journal can have it
 pub record IsBodyOf (c : Command) (body : List ℕ) : Type 0 where

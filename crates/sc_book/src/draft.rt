@@ -1,22 +1,21 @@
-ghost use Rattle.std.specs.Prelude.{◌≡◌, ◌+◌, ◌^◌, ◌≤◌, IfOk, OnOk, length};
-ghost use Rattle.sc_book.specs.Drafts.{Confirms, HasBody, IsBodyOf, IsDraft};
+ghost use Rattle.std.specs.Prelude.{◌≡◌, ◌+◌, ◌^◌, ◌≤◌, true, IfOk, OnOk, length};
+ghost use Rattle.std.specs.List.{list_all};
+ghost use Rattle.sc_book.specs.Drafts.{Confirms, FitsEntry, HasBody, IsBodyOf, IsDraft, has_fitting_values};
 ghost use Rattle.sc_book.specs.Keeping.{HasRoom, IsSameLog};
 ghost use Rattle.sc_core.specs.Accepted.{is_accepted};
 ghost use Rattle.sc_core.specs.Commands.{Answer, answer};
 ghost use Rattle.sc_core.specs.HostStates.{CanInstall};
 ghost use Rattle.sc_core.specs.Preparing.{Prepares};
+ghost use Rattle.sc_types.specs.Values.{fits};
 
 use crate::log::Log;
 use crate::receipt::Receipt;
-use sc_base::{Bytes, NoMemory, Plain};
-use sc_codec::{encode, is_encodable};
+use sc_base::{Bytes, NoMemory, Plain, PlainName};
+use sc_codec::encode;
 use sc_core::{HostState, Prepared};
 use sc_law::{Engine, Turned};
-use sc_types::{Command, Reply};
+use sc_types::{Command, Reply, Value};
 use std::alloc::Global;
-
-/// The most bytes that a body has in the journal.
-const BODY_LIMIT: usize = 2_097_152;
 
 /// A command that is answered, with all memory that its entry takes.
 #[derive(Drop)]
@@ -40,23 +39,37 @@ fn receipt_of<P: Drop>(prepared: &Prepared<P>, number: u64) -> Result<Receipt, N
     })
 }
 
-/// The body of a command. No command that the host accepts is too long for one: the host's limits on names and pairs are
-/// far below those of the journal.
+fn have_fitting_values(pairs: &[(PlainName, Value)]) -> bool
+    ensures { result ≡ list_all (λ p. fits p.1) pairs.now }
+{
+    pairs.iter().all(|p| p.1.fits())
+}
+
+/// Whether each value in a command is within the limits of values.
+fn has_fitting_values(command: &Command) -> bool
+    ensures { result ≡ has_fitting_values command.now }
+{
+    match command {
+        Command::Post { pairs, .. } => have_fitting_values(pairs.slice()),
+        _ => true,
+    }
+}
+
+/// The body of a command that the host accepts. `NoMemory` also where a value in it is past the limits of values, for
+/// which the journal has no form.
 fn body_of(alloc: Global, command: &Command) -> Result<Bytes, NoMemory>
+    requires entry { FitsEntry command.now }
     ensures { IfOk result (IsBodyOf command.now) }
 {
-    if !is_encodable(command) {
+    if !has_fitting_values(command) {
         return Err(NoMemory);
     }
-    let body = encode(alloc, command)?;
-    if body.len() > BODY_LIMIT {
-        return Err(NoMemory);
-    }
-    Ok(body)
+    encode(alloc, command)
 }
 
 /// The body of a command with this reply: none where it is refused.
 fn journaled(alloc: Global, command: &Command, reply: &Reply) -> Result<Option<Bytes>, NoMemory>
+    requires entry { is_accepted reply.now ≡ true → FitsEntry command.now }
     ensures { IfOk result (HasBody (is_accepted reply.now) command.now) }
 {
     match reply {
@@ -93,6 +106,7 @@ pub(crate) fn draft_entry<E: Engine>(
     turned: Option<Turned>,
 ) -> Result<Draft<E::Plan>, NoMemory>
     requires room { host.old.image.commands ≤ 2 ^ 48 }
+    requires entry { is_accepted (answer host.old.image command.now).reply ≡ true → FitsEntry command.now }
     ensures image { host.new.image ≡ host.old.image }
     ensures log { IsSameLog log.old log.new }
     ensures room { OnOk result (HasRoom log.new) }

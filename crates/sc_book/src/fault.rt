@@ -22,6 +22,7 @@ pub enum CallFault {
     Disk,
     /// The host would accept the command, and the journal has no room for it.
     Full,
+    /// Memory is out, or the host would accept the command and a value in it is past the limits of values.
     NoMemory,
 }
 

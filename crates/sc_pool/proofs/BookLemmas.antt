@@ -1,10 +1,9 @@
 -- A book is a host that jobs may share.
-use Rattle.std.proofs.Common.{◌≡◌, inl, inr, ℕ, zero, suc, ◌<◌, ◌≤◌, Bool, true, false, cond, ◌||◌, is_some, nat_lt, lt-ltb, nat_le, Option, Some, None, option_map, option_and_then, List, [], ◌∷◌, length, find, slice_get, refl, sym, ap, ◌∙◌, subst, arith}
+use Rattle.std.proofs.Common.{◌≡◌, inl, inr, ℕ, zero, suc, ◌<◌, ◌≤◌, Bool, true, false, cond, ◌||◌, nat_le, Option, Some, List, [], ◌∷◌, length, find, slice_get, refl, sym, ap, ◌∙◌, subst, arith}
 use Rattle.std.specs.List.{list_any, position_or_len}
 use Rattle.std.specs.Option.{option_map_or}
 use Rattle.std.specs.Str.{bytes_eq}
-use Rattle.std.proofs.lemmas.List.Folds.{find_at}
-use Rattle.std.proofs.lemmas.Option.{same_Some, slice_get_within}
+use Rattle.std.proofs.lemmas.Option.{same_Some}
 use Rattle.std.proofs.lemmas.Slice.Eq.{bytes_eq-Decides}
 use Rattle.sc_book.specs.Books.{BookOf, IsBook, IsSome, opening}
 use Rattle.sc_book.specs.Claims.{step_at}
@@ -22,7 +21,7 @@ use Rattle.sc_core.specs.Histories.{replay}
 use Rattle.sc_core.specs.Hosts.{empty_host, is_session_named, session_named}
 use Rattle.sc_core.specs.Waiting.{name_at}
 use Rattle.sc_core.proofs.ChangeLemmas.{change_of}
-use Rattle.sc_core.proofs.NameLemmas.{AreDistinct, distinct_kept, ready_stepped, step_taken}
+use Rattle.sc_core.proofs.NameLemmas.{AreDistinct, distinct_kept, has_cue, placed, ready_stepped, step_taken}
 use Rattle.sc_dev.specs.Causes.{Rose}
 use Rattle.sc_dev.specs.Disks.{DiskOf}
 use Rattle.sc_journal.specs.Journals.{IsFull}
@@ -97,22 +96,7 @@ found_by_name (x ∷ xs) (suc i) s distinct there =
     other_name s.state.session x.state.session (not_first x.state.session xs i s distinct.0 there) in
     ap (λ b. cond b (Some x) (find (is_session_named s.state.session) xs)) other ∙ found_by_name xs i s distinct.1 there
 
--- and its place with it
-place_of : (g : HostImage) (name : List ℕ) (s : SessionImage) → find (is_session_named name) g.sessions ≡ Some s
-    → session_named g name ≡ Some (position_or_len (is_session_named name) g.sessions, s)
-place_of g name s found =
-    let p = is_session_named name in
-    let place = position_or_len p g.sessions in
-    let at = sym (find_at p g.sessions) ∙ found in
-    let below : nat_lt place (length g.sessions) ≡ true = lt-ltb place (length g.sessions) (slice_get_within g.sessions place s at) in
-    ap (λ b. option_and_then {U = ℕ × SessionImage} (λ q. option_map (λ (x : SessionImage). (q, x)) (slice_get g.sessions q)) (cond b (Some place) None)) below
-    ∙ ap (option_map {U = ℕ × SessionImage} (λ (x : SessionImage). (place, x))) at
-
 -- ---- a ready session's step is accepted
-
-has_cue : (o : Option Cue) → is_some o ≡ true → (cue : Cue) × (o ≡ Some cue)
-has_cue None h = absurd (cc)
-has_cue (Some cue) h = (cue, refl)
 
 -- the step of the session at a place is accepted
 pub record IsStepped (g : HostImage) (c : Command) : Type 0 where
@@ -138,7 +122,7 @@ place_stepped g place distinct some =
     let s = found.session in
     let there = found_at (λ p. nat_le place p) place g.sessions found in
     let cue = has_cue (cue_of s) found.ready in
-    let named = place_of g s.state.session s (found_by_name g.sessions place s distinct there) in
+    let named = placed g s.state.session s (found_by_name g.sessions place s distinct there) in
     record {
       name = name_at g place;
       is = refl;

@@ -7,6 +7,7 @@ use Rattle.sc_core.specs.Histories.{Tells}
 use Rattle.sc_journal.specs.Stops.{LeavesOnly}
 use Rattle.sc_types.specs.declared.history.Entry.{Entry}
 use Rattle.sc_book.proofs.AnswerLemmas.{has_body, no_body, not_accepted, not_stored, stored}
+use Rattle.sc_book.proofs.BodyLemmas.{accepted_fits}
 use Rattle.sc_book.proofs.BookLemmas.{counted, during_none, during_store}
 use Rattle.sc_core.proofs.AcceptedLemmas.{refused_changes_nothing}
 use Rattle.sc_book.proofs.book.Book.answer.Goals as goal
@@ -23,6 +24,11 @@ draft_entry-requires-clause-room g c =
     let none : i.journal.doubt ≡ None = ap (λ (x : BookOf g.row.D.Denot). x.journal.doubt) c.self.view_is ∙ c.requires.settled in
     let count = counted T L S M laws.only_now c.self.invariant.past b c.self.invariant.is in
     omega (arith, count, c.next_number-next.ensures.value, c.next_number-next.ensures.limit)
+
+pub draft_entry-requires-clause-entry : goal.draft_entry-requires-clause-entry
+draft_entry-requires-clause-entry g c = λ granted.
+    accepted_fits c.self.invariant.past c.self.inside.log.history.entries c.self.inside.host.image c.args.command
+    c.self.invariant.is.host granted
 
 pub returns-in_err-prepared-clause-any_moment : goal.returns-in_err-prepared-clause-any_moment
 returns-in_err-prepared-clause-any_moment g c = λ told past is.
