@@ -28,8 +28,7 @@ within_encodable (Install name text) within fits = (omega (arith, within.0), ome
 within_encodable (Start session chart) within fits = (omega (arith, within.0), omega (arith, within.1))
 within_encodable (Post session name pairs) within fits = (
   omega (arith, within.0),
-  omega (arith, within.1.0),
-  record { count = omega (arith, within.1.1.0); values = fits },
+  (omega (arith, within.1.0), record { count = omega (arith, within.1.1.0); values = fits }),
 )
 within_encodable (Tick ticks) within fits = tt
 within_encodable (Cancel session) within fits = omega (arith, within)

@@ -26,7 +26,7 @@ draft_entry-requires-clause-room g c =
     omega (arith, count, c.next_number-next.ensures.value, c.next_number-next.ensures.limit)
 
 pub draft_entry-requires-clause-entry : goal.draft_entry-requires-clause-entry
-draft_entry-requires-clause-entry g c = λ granted.
+draft_entry-requires-clause-entry g c = λ lifetimes lives granted.
     accepted_fits c.self.invariant.past c.self.inside.log.history.entries c.self.inside.host.image c.args.command
     c.self.invariant.is.host granted
 
