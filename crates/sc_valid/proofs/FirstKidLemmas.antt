@@ -1,5 +1,5 @@
 -- The place of the first child element of a tag: what it tells, and the table that keeps it.
-use Rattle.std.proofs.Common.{◌≡◌, ℕ, ◌+◌, zero, suc, Bool, true, false, not, cond, ◌&&◌, ◌||◌, Option, Some, None, IfSome, List, [], ◌∷◌, length, position, is_some, nat_lt, take, refl, sym, ap, ◌∙◌, subst, arith, rules}
+use Rattle.std.proofs.Common.{◌≡◌, ℕ, ◌+◌, zero, suc, Bool, true, false, not, cond, ◌&&◌, ◌||◌, Option, Some, None, IfSome, List, [], ◌∷◌, length, position, is_some, nat_lt, take, refl, sym, ap, ◌∙◌, subst, arith}
 use Rattle.std.proofs.lemmas.Bool.Decides.{nat_tests}
 use Rattle.std.specs.BTreeMap.{UpdatesBy}
 use Rattle.std.specs.Cmp.{eq_by_cmp_equiv}
@@ -11,16 +11,12 @@ use Rattle.sc_types.specs.declared.chart.Chart.{Chart}
 use Rattle.sc_types.specs.declared.chart.Node.{Node}
 use Rattle.sc_types.specs.declared.chart.Tag.{Tag}
 use Rattle.sc_types.specs.declared.chart.Tag.TheVariants as tag
-use Rattle.sc_law.specs.Nodes.{Path, element, is_same, is_tag, kids, tag_of}
-use Rattle.sc_law.specs.Legality.{has_earlier, has_kid, own_place}
-use Rattle.sc_law.specs.Nodes.{parent}
+use Rattle.sc_law.specs.Nodes.{Path, element, is_same, is_tag, kids, parent, tag_of}
+use Rattle.sc_law.specs.Legality.{has_earlier, own_place}
 use Rattle.sc_valid.specs.FirstKids.{first_kid, place_of, AreRight, IsKept}
 use Rattle.sc_valid.specs.declared.first_kids.FirstKids.{FirstKids}
+use Rattle.sc_valid.proofs.PairLemmas.{and_false, second_true}
 use Rattle.sc_valid.proofs.TableLemmas.{apart, others_kept}
-
-and_none : (b : Bool) → (b && false) ≡ false
-and_none true = refl
-and_none false = refl
 
 none_below : (m : ℕ) → nat_lt m 0 ≡ false
 none_below m = grind (arith, nat_tests)
@@ -34,7 +30,7 @@ at_once n k = grind (arith, nat_tests)
 before_here : {X : Type 0} (p : X → Bool) (xs : List X) (n : ℕ)
     → (nat_lt (position_or_len p xs) (length xs) && nat_lt (position_or_len p xs) n) ≡ list_any p (take n xs)
 before_here p xs zero = ap (λ b. nat_lt (position_or_len p xs) (length xs) && b) (none_below (position_or_len p xs))
-    ∙ and_none (nat_lt (position_or_len p xs) (length xs))
+    ∙ and_false (nat_lt (position_or_len p xs) (length xs))
 before_here p [] (suc n) = refl
 before_here p (x ∷ xs) (suc n) = by (p x) (before_here p xs n) where
   by : (b : Bool) → (nat_lt (position_or_len p xs) (length xs) && nat_lt (position_or_len p xs) n) ≡ list_any p (take n xs)
@@ -91,8 +87,5 @@ still_right old new t c is_kind path n there right kept other = subst (λ o. IfS
     (sym (kept.finds other)) (by (is_kind && is_same path other) refl) where
       by : (b : Bool) → (is_kind && is_same path other) ≡ b
           → IfSome (cond b (Some (first_kid t n)) (place_of old other)) (λ place. place ≡ first_kid t (element c other))
-      by true e = ap (first_kid t) (there ∙ ap (element c) ((bytes_decides path other).0 (second is_kind (is_same path other) e))) where
-        second : (a b : Bool) → (a && b) ≡ true → b ≡ true
-        second true b e = e
-        second false b e = search rules
+      by true e = ap (first_kid t) (there ∙ ap (element c) ((bytes_decides path other).0 (second_true is_kind (is_same path other) e)))
       by false e = right other

@@ -1,7 +1,6 @@
 -- Targets in document order: where each two neighbours are orthogonal, each two targets are.
 use Rattle.std.proofs.Common.{◌≡◌, ℕ, ◌<◌, ◌==◌, ◌⊎◌, inl, inr, suc, ◌-◌, Bool, true, false, cond, not, ◌&&◌, List, [], ◌∷◌, length, map, take, refl, sym, ap, ap₂, subst, ◌∙◌, arith, rules, nat_eq, nat_lt}
 use Rattle.std.proofs.lemmas.Bool.Decides.{nat_tests}
-use Rattle.std.specs.Cmp.{IsStrictWeakOrder}
 use Rattle.std.specs.Cmp.Lexicographic.{slice_cmp, nat_list_cmp_total, nat_list_eq_equiv}
 use Rattle.std.specs.List.{list_all, starts_with}
 use Rattle.std.specs.List.Sorted.{IsPermutation, IsSortedByKey}
@@ -15,7 +14,7 @@ use Rattle.sc_types.specs.declared.chart.Tag.TheVariants as tag
 use Rattle.sc_law.specs.Nodes.{Path, element, is_same, is_tag, leads_on, parent, tag_of}
 use Rattle.sc_law.specs.Legality.{all_orthogonal, are_orthogonal, common}
 use Rattle.sc_valid.specs.Neighbours.{all_neighbours}
-use Rattle.sc_valid.proofs.PairLemmas.{all_pairs, all_pairs-permuted, neighbours_enough, first_true, second_true, both_true}
+use Rattle.sc_valid.proofs.PairLemmas.{all_pairs, all_pairs-permuted, neighbours_enough, first_true, second_true, both_true, and_false}
 
 -- what two targets are to each other: `test` is what has to hold of their first common ancestor, `h` and `k` say which
 -- of them are histories
@@ -93,10 +92,6 @@ orthogonal-same test h k i (x ∷ a) (y ∷ b) =
 
       second : is_same (parent (i ∷ y ∷ b)) (common (i ∷ x ∷ a) (i ∷ y ∷ b)) ≡ is_same (parent (y ∷ b)) (common (x ∷ a) (y ∷ b))
       second = ap₂ is_same (parent-more i y b) meet ∙ ap (λ t. t && is_same (parent (y ∷ b)) (common (x ∷ a) (y ∷ b))) (itself i)
-
-and_false : (b : Bool) → (b && false) ≡ false
-and_false true = refl
-and_false false = refl
 
 orthogonal-other : (test : Path → Bool) (h k : Bool) (i j : ℕ) (a b : Path) → (i == j) ≡ false
     → orthogonal test h k (i ∷ a) (j ∷ b) ≡ part test h k i a j b

@@ -12,6 +12,12 @@ abbrev pub all_pairs : {X : Type 0} → (X → X → Bool) → List X → Bool
 all_pairs test [] = true
 all_pairs test (x ∷ xs) = list_all (test x) xs && all_pairs test xs
 
+-- two tests together
+
+pub and_false : (b : Bool) → (b && false) ≡ false
+and_false true = refl
+and_false false = refl
+
 pub first_true : (a b : Bool) → (a && b) ≡ true → a ≡ true
 first_true true b e = refl
 first_true false b e = e

@@ -1,6 +1,6 @@
 -- Where the first child element of a tag stands, and what a table keeps of it. Only contracts of private functions
 -- cite this.
-use Rattle.std.specs.Prelude.{ℕ, ◌≡◌, Bool, ◌&&◌, if◌then◌else◌, IfSome, Option, Some, None, List, position}
+use Rattle.std.specs.Prelude.{ℕ, ◌≡◌, Bool, ◌&&◌, if◌then◌else◌, IfSome, Option, Some, position}
 use Rattle.std.specs.BTreeMap.{get_by}
 use Rattle.std.specs.Cmp.Lexicographic.{slice_cmp}
 use Rattle.std.specs.Ordering.{nat_cmp}

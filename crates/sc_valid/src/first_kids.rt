@@ -9,8 +9,8 @@ use sc_types::{NoMemory, Node, Plain, Tag};
 use std::alloc::Global;
 use std::collections::BTreeMap;
 
-/// Where the first child element of a tag stands, of the parents that it was kept for. Each child element of an `if`
-/// asks for the first `else`, so a scan for each would take time in the square of their number.
+/// Where the first child element of a tag stands, of the parents that it was kept for. Each `elseif` of an `if` asks
+/// for the first `else`, and a scan for each would take time in the square of their number.
 #[derive(Drop)]
 pub(crate) struct FirstKids {
     places: BTreeMap<Vec<usize>, Option<usize>>,

@@ -1,4 +1,4 @@
-use Rattle.std.proofs.Common.{take, ap, ◌∙◌, rules, arith}
+use Rattle.std.proofs.Common.{take, ap, ◌∙◌, rules}
 use Rattle.std.proofs.Math.Seq.{take-length}
 use Rattle.sc_valid.proofs.OrthogonalLemmas.{moved}
 use Rattle.sc_valid.proofs.target.in_order.Goals as goal
