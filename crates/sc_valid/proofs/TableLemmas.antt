@@ -19,12 +19,12 @@ use Rattle.sc_law.specs.Nodes.{Path, tag_of, element}
 use Rattle.sc_valid.specs.Firsts.{first_of, IsPut, IsAdded, AreFirsts}
 use Rattle.sc_valid.specs.declared.firsts.Firsts.{Firsts}
 
-apart : (id other key : List ℕ) → bytes_eq id other ≡ false → is_eq (slice_cmp nat_cmp id key) ≡ true → is_eq (slice_cmp nat_cmp other key) ≡ false
+pub apart : (id other key : List ℕ) → bytes_eq id other ≡ false → is_eq (slice_cmp nat_cmp id key) ≡ true → is_eq (slice_cmp nat_cmp other key) ≡ false
 apart id other key n y =
     is_eq-slice_cmp other key ∙ nat_list_eq_equiv.symm other key ∙ sym (nat_list_eq_equiv.congr id key other (sym (is_eq-slice_cmp id key) ∙ y)) ∙ n
 
 module _ {K X : Type 0} (eq : K → K → Bool) (test : K → Bool) where
-  others_kept : (old new : List (K × X)) → KeepsOthers eq test old new → (other : K → Bool) → IsKeyTest eq other → AreApart test other → lookup other new ≡ lookup other old
+  pub others_kept : (old new : List (K × X)) → KeepsOthers eq test old new → (other : K → Bool) → IsKeyTest eq other → AreApart test other → lookup other new ≡ lookup other old
   unfolding KeepsOthers
   others_kept old new h = h
 

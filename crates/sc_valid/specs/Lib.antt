@@ -1,2 +1,4 @@
+pub mod FirstKids
 pub mod Firsts
+pub mod Neighbours
 pub mod Numbers

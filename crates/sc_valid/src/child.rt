@@ -4,7 +4,7 @@ ghost use Rattle.sc_law.specs.Nodes.{element, parent, is_tag};
 ghost use Rattle.sc_law.specs.Legality.{is_among, is_single, has_kid, has_earlier, is_in_finalize, is_bad_kid, is_bad_child};
 
 use crate::index::ChartIndex;
-use crate::tags::{has_kid, is_any, is_single, is_tag, may_hold};
+use crate::tags::{is_any, is_single, is_tag, may_hold};
 use sc_types::Tag;
 
 impl<'c> ChartIndex<'c> {
@@ -39,9 +39,7 @@ impl<'c> ChartIndex<'c> {
         ensures { result ≡ (is_tag tag_name.DoneData above && is_tag tag_name.Param tag
             && has_kid tag_name.Content (element self.now (parent path.now))) }
     {
-        is_tag(Tag::DoneData, above)
-            && is_tag(Tag::Param, tag)
-            && has_kid(Tag::Content, self.parent(path))
+        is_tag(Tag::DoneData, above) && is_tag(Tag::Param, tag) && self.is_with_content(path)
     }
 
     fn sends_in_finalize(&self, path: &[usize], tag: Tag) -> bool
@@ -71,6 +69,6 @@ impl<'c> ChartIndex<'c> {
     {
         is_tag(Tag::If, above)
             && matches!(tag, Tag::ElseIf | Tag::Else)
-            && is_any(Tag::Else, self.earlier(path))
+            && self.has_earlier_else(path)
     }
 }

@@ -1,25 +1,30 @@
-ghost use Rattle.std.specs.Prelude.{◌≡◌, IfOk, option_map};
-ghost use Rattle.std.specs.Option.{option_copied};
+ghost use Rattle.std.specs.Prelude.{◌≡◌, IfOk, option_map, nat_lt, false};
+ghost use Rattle.std.specs.Option.{option_copied, option_map_or};
 ghost use Rattle.sc_types.specs.Elements.{is_numbered};
 ghost use Rattle.sc_types.specs.declared.attribute.Attribute.TheVariants as attribute;
 ghost use Rattle.sc_types.specs.declared.chart.Tag.TheVariants as tag_name;
 ghost use Rattle.sc_law.specs.Nodes.{tag_of, elements, element, parent, is_tag};
-ghost use Rattle.sc_law.specs.Legality.{own_place, earlier, path_named, is_repeated, is_double_id};
+ghost use Rattle.sc_law.specs.Legality.{own_place, earlier, path_named, is_repeated, is_double_id, has_earlier, has_kid};
+ghost use Rattle.sc_valid.specs.FirstKids.{first_kid};
 ghost use Rattle.sc_valid.specs.Firsts.{first_of, HasFirsts, is_later};
 
+use crate::first_kids::{FirstKids, first_kid};
 use crate::firsts::Firsts;
 use sc_law::{Path, element};
 use sc_types::{Attribute, Chart, NoMemory, Node, Plain, Tag};
 use std::alloc::Global;
 use std::marker::Model;
 
-/// A chart, and the first element of each id among states, among invokes and among data.
+/// A chart, the first element of each id among states, among invokes and among data, and the first `else` of each `if`
+/// and `content` of each `donedata`.
 #[derive(Drop)]
 pub(crate) struct ChartIndex<'c> {
     chart: &'c Chart,
     states: Firsts,
     invokes: Firsts,
     data_items: Firsts,
+    elses: FirstKids,
+    contents: FirstKids,
 }
 
 impl<'c> Model for ChartIndex<'c> {
@@ -29,6 +34,7 @@ impl<'c> Model for ChartIndex<'c> {
     ghost use Rattle.sc_types.specs.contracts.chart.Chart as chart_type;
     ghost use Rattle.sc_law.specs.Nodes.{is_tag};
     ghost use Rattle.std.specs.Coded.{codes};
+    ghost use Rattle.sc_valid.specs.FirstKids.{AreRight};
     ghost use Rattle.sc_valid.specs.Firsts.{HasFirsts};
 
     ghost Value = { Chart };
@@ -39,7 +45,8 @@ impl<'c> Model for ChartIndex<'c> {
 
     ghost invariant = { λ i. HasFirsts i.states is_numbered i.chart.now
         × HasFirsts i.invokes (is_tag tag_name.Invoke) i.chart.now
-        × HasFirsts i.data_items (is_tag tag_name.DataItem) i.chart.now };
+        × HasFirsts i.data_items (is_tag tag_name.DataItem) i.chart.now
+        × AreRight i.elses tag_name.Else i.chart.now × AreRight i.contents tag_name.Content i.chart.now };
 }
 
 impl<'c> ChartIndex<'c> {
@@ -55,17 +62,23 @@ impl<'c> ChartIndex<'c> {
         let mut states = Firsts::new(alloc);
         let mut invokes = Firsts::new(alloc);
         let mut data_items = Firsts::new(alloc);
+        let mut elses = FirstKids::new(alloc);
+        let mut contents = FirstKids::new(alloc);
         for path in paths {
             let node = element(chart, path.slice());
             states.add(alloc, node.tag.is_numbered(), node, path)?;
             invokes.add(alloc, is_invoke(node.tag), node, path)?;
             data_items.add(alloc, is_data_item(node.tag), node, path)?;
+            elses.add(is_if(node.tag), Tag::Else, node, path)?;
+            contents.add(is_done_data(node.tag), Tag::Content, node, path)?;
         }
         Ok(ChartIndex {
             chart,
             states,
             invokes,
             data_items,
+            elses,
+            contents,
         })
     }
 
@@ -104,6 +117,40 @@ impl<'c> ChartIndex<'c> {
             &kids[..place]
         } else {
             kids
+        }
+    }
+
+    /// Whether an `else` stands before an element below the same parent.
+    pub(crate) fn has_earlier_else(&self, path: &[usize]) -> bool
+        ensures { result ≡ has_earlier tag_name.Else self.now path.now }
+    {
+        is_before(self.first_else(parent(path)), own_place(path))
+    }
+
+    /// Whether the parent of an element has a `content`.
+    pub(crate) fn is_with_content(&self, path: &[usize]) -> bool
+        ensures { result ≡ has_kid tag_name.Content (element self.now (parent path.now)) }
+    {
+        self.first_content(parent(path)).is_some()
+    }
+
+    /// The place of the first `else` in an element. The table has it for each `if`.
+    fn first_else(&self, path: &[usize]) -> Option<usize>
+        ensures { result ≡ first_kid tag_name.Else (element self.now path.now) }
+    {
+        match self.elses.find(path) {
+            Some(place) => *place,
+            None => first_kid(Tag::Else, self.element(path)),
+        }
+    }
+
+    /// The place of the first `content` in an element. The table has it for each `donedata`.
+    fn first_content(&self, path: &[usize]) -> Option<usize>
+        ensures { result ≡ first_kid tag_name.Content (element self.now path.now) }
+    {
+        match self.contents.find(path) {
+            Some(place) => *place,
+            None => first_kid(Tag::Content, self.element(path)),
         }
     }
 
@@ -150,6 +197,18 @@ fn is_data_item(tag: Tag) -> bool
     matches!(tag, Tag::DataItem)
 }
 
+fn is_if(tag: Tag) -> bool
+    ensures { result ≡ is_tag tag_name.If tag }
+{
+    matches!(tag, Tag::If)
+}
+
+fn is_done_data(tag: Tag) -> bool
+    ensures { result ≡ is_tag tag_name.DoneData tag }
+{
+    matches!(tag, Tag::DoneData)
+}
+
 pub(crate) fn parent(path: &[usize]) -> &[usize]
     ensures { result.now ≡ parent path.now }
 {
@@ -163,6 +222,15 @@ fn own_place(path: &[usize]) -> usize
     match path {
         [] => 0,
         [.., place] => *place,
+    }
+}
+
+fn is_before(place: Option<usize>, limit: usize) -> bool
+    ensures { result ≡ option_map_or (λ place. nat_lt place limit) place false }
+{
+    match place {
+        Some(place) => place < limit,
+        None => false,
     }
 }
 

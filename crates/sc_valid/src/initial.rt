@@ -37,14 +37,15 @@ impl<'c> ChartIndex<'c> {
         let targets = self.targets(alloc, node.words(Attribute::Initial))?;
         Ok(match node.tag {
             Tag::Scxml => {
-                names_none(Attribute::Initial, node) || !self.all_orthogonal(targets.slice())
+                names_none(Attribute::Initial, node)
+                    || !self.all_orthogonal(alloc, targets.slice())?
             }
             Tag::State => {
                 names_none(Attribute::Initial, node)
                     || !has_states(node)
                     || has_kid(Tag::Initial, node)
                     || !are_below(path, targets.slice())
-                    || !self.all_orthogonal(targets.slice())
+                    || !self.all_orthogonal(alloc, targets.slice())?
             }
             _ => false,
         })
@@ -57,17 +58,24 @@ impl<'c> ChartIndex<'c> {
         match default_ids(self.element(path)) {
             Some(ids) => {
                 let targets = self.targets(alloc, ids)?;
-                Ok(self.are_bad_defaults(path, targets.slice()))
+                self.are_bad_defaults(alloc, path, targets.slice())
             }
             None => Ok(true),
         }
     }
 
-    fn are_bad_defaults(&self, path: &[usize], targets: &[Path]) -> bool
-        ensures { result ≡ are_bad_defaults self.now path.now targets.now }
+    fn are_bad_defaults(
+        &self,
+        alloc: Global,
+        path: &[usize],
+        targets: &[Path],
+    ) -> Result<bool, NoMemory>
+        ensures { IfOk result (λ b. b ≡ are_bad_defaults self.now path.now targets.now) }
     {
-        !path.is_empty() && is_bad_below(self.parent(path), parent(path), targets)
-            || !self.all_orthogonal(targets)
+        if !path.is_empty() && is_bad_below(self.parent(path), parent(path), targets) {
+            return Ok(true);
+        }
+        Ok(!self.all_orthogonal(alloc, targets)?)
     }
 
     pub(crate) fn is_bad_history(&self, alloc: Global, path: &[usize]) -> Result<bool, NoMemory>
@@ -88,16 +96,24 @@ impl<'c> ChartIndex<'c> {
         match default_ids(node) {
             Some(ids) => {
                 let targets = self.targets(alloc, ids)?;
-                Ok(self.are_bad_recorded(path, targets.slice()))
+                self.are_bad_recorded(alloc, path, targets.slice())
             }
             None => Ok(true),
         }
     }
 
-    fn are_bad_recorded(&self, path: &[usize], targets: &[Path]) -> bool
-        ensures { result ≡ are_bad_recorded self.now path.now targets.now }
+    fn are_bad_recorded(
+        &self,
+        alloc: Global,
+        path: &[usize],
+        targets: &[Path],
+    ) -> Result<bool, NoMemory>
+        ensures { IfOk result (λ b. b ≡ are_bad_recorded self.now path.now targets.now) }
     {
-        self.is_any_bad_recorded(path, targets) || !self.all_orthogonal(targets)
+        if self.is_any_bad_recorded(path, targets) {
+            return Ok(true);
+        }
+        Ok(!self.all_orthogonal(alloc, targets)?)
     }
 
     fn is_any_bad_recorded(&self, path: &[usize], targets: &[Path]) -> bool

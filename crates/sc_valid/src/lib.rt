@@ -3,6 +3,7 @@
 
 mod child;
 mod data;
+mod first_kids;
 mod firsts;
 mod index;
 mod initial;

@@ -1,9 +1,13 @@
-ghost use Rattle.std.specs.Prelude.{◌≡◌, IfOk};
-ghost use Rattle.std.specs.List.{list_all, list_any};
+ghost use Rattle.std.specs.Prelude.{◌≡◌, IfOk, map};
+ghost use Rattle.std.specs.Cmp.Lexicographic.{slice_cmp};
+ghost use Rattle.std.specs.List.{list_any};
+ghost use Rattle.std.specs.List.Sorted.{IsPermutation, IsSortedByKey};
+ghost use Rattle.std.specs.Ordering.{nat_cmp};
 ghost use Rattle.std.specs.Prelude.{is_none};
 ghost use Rattle.sc_law.specs.Nodes.{tag_of, is_tag, element};
 ghost use Rattle.sc_law.specs.Legality.{path_named, target_ids, has_unknown_target, targets, common, is_history_of, are_orthogonal, all_orthogonal, are_below, is_transition, has_bad_targets, is_empty_transition};
 ghost use Rattle.sc_types.specs.declared.chart.Tag.TheVariants as tag_name;
+ghost use Rattle.sc_valid.specs.Neighbours.{all_neighbours};
 
 use crate::index::{ChartIndex, parent};
 use crate::tags::is_state_or_parallel;
@@ -70,21 +74,24 @@ impl<'c> ChartIndex<'c> {
         self.is_parallel(above) && !self.is_history_of(above, a) && !self.is_history_of(above, b)
     }
 
-    fn is_orthogonal_to_each(&self, path: &[usize], others: &[Path]) -> bool
-        ensures { result ≡ list_all (are_orthogonal self.now path.now) others.now }
+    /// Whether each two targets can be active at once. In document order it is enough to compare
+    /// neighbours.
+    pub(crate) fn all_orthogonal(&self, alloc: Global, paths: &[Path]) -> Result<bool, NoMemory>
+        ensures { IfOk result (λ b. b ≡ all_orthogonal self.now paths.now) }
     {
-        others
-            .iter()
-            .all(|other| self.are_orthogonal(path, other.slice()))
+        let ordered = in_order(alloc, paths)?;
+        Ok(self.are_neighbours_orthogonal(ordered.as_slice()))
     }
 
-    pub(crate) fn all_orthogonal(&self, paths: &[Path]) -> bool
-        ensures { result ≡ all_orthogonal self.now paths.now }
+    fn are_neighbours_orthogonal(&self, paths: &[&[usize]]) -> bool
+        ensures { result ≡ all_neighbours (λ a b. are_orthogonal self.now a.now b.now) paths.now }
     {
-        for i in 0..paths.len() {
-            if !self.is_orthogonal_to_each(paths[i].slice(), &paths[i + 1..]) {
+        let mut rest = paths;
+        while let [a, b, ..] = rest {
+            if !self.are_orthogonal(*a, *b) {
                 return false;
             }
+            rest = &rest[1..];
         }
         true
     }
@@ -106,7 +113,7 @@ impl<'c> ChartIndex<'c> {
             return Ok(false);
         }
         let targets = self.targets(alloc, self.element(path).words(Attribute::Target))?;
-        Ok(!self.all_orthogonal(targets.slice()))
+        Ok(!self.all_orthogonal(alloc, targets.slice())?)
     }
 
     pub(crate) fn is_empty_transition(&self, path: &[usize]) -> bool
@@ -124,6 +131,19 @@ pub(crate) fn are_below(above: &[usize], paths: &[Path]) -> bool
     ensures { result ≡ are_below above.now paths.now }
 {
     paths.iter().all(|path| leads_on(above, path.slice()))
+}
+
+/// The paths in document order.
+fn in_order<'p>(alloc: Global, paths: &'p [Path]) -> Result<Vec<&'p [usize]>, NoMemory>
+    ensures permutation { IfOk result (λ v. IsPermutation paths.now (map (λ p. p.now) v.items)) }
+    ensures sorted { IfOk result (λ v. IsSortedByKey (λ p. p.now) (slice_cmp nat_cmp) v.items) }
+{
+    let mut ordered = Vec::new(alloc);
+    for path in paths {
+        ordered.push(path.slice())?;
+    }
+    ordered.sort_unstable();
+    Ok(ordered)
 }
 
 /// The ids that an element names as targets.
