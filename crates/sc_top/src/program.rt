@@ -152,29 +152,27 @@ fn run<R: Threads + Wait + Sync, S: Source, D: Disk, G: Gate>(
     ensures few { ConsumesUpTo (most_read (Some (Asked.Run steps.workers steps.budget))) (S.left source.old) (S.left source.new) }
 {
     match read_up_to(alloc, source, SCRIPT_TEXT_LIMIT) {
-        Ok(text) => run_text(rt, alloc, steps, text, disk, gate),
+        Ok(text) => run_text(rt, alloc, steps, text.as_slice(), disk, gate),
         Err(Failure::Fault(_)) => Ok(Saying::ReadFault),
         Err(Failure::NoMemory) => Err(NoMemory),
     }
 }
 
-/// What there is to say of a text that should spell a script. Its memory is given back before the script is run.
+/// What there is to say of a text that should spell a script.
 fn run_text<R: Threads + Wait + Sync, D: Disk, G: Gate>(
     rt: &R,
     alloc: Global,
     steps: Steps,
-    text: Vec<u8>,
+    text: &[u8],
     disk: &mut D,
     gate: &G,
 ) -> Result<Saying, NoMemory>
     ensures ok { IfOk result (λ s. SaysOfScript (disk_known D.tells D.reads D.may_leave D.faults disk.old disk.new)
-        steps.workers steps.budget (script_of text.items) (status_of s) (text_of s)) }
+        steps.workers steps.budget (script_of text.now) (status_of s) (text_of s)) }
     ensures err { OnErr result (LeavesScript (disk_known D.tells D.reads D.may_leave D.faults disk.old disk.new)
-        steps.workers steps.budget (script_of text.items)) }
+        steps.workers steps.budget (script_of text.now)) }
 {
-    let read = read_script(alloc, text.as_slice());
-    drop(text);
-    match read {
+    match read_script(alloc, text) {
         Ok(script) => journal::run(rt, alloc, steps, script, Form::Report, disk, gate),
         Err(Failure::Fault(fault)) => Ok(Saying::BadScript(script_fault_line(alloc, &fault)?)),
         Err(Failure::NoMemory) => Err(NoMemory),

@@ -1,4 +1,4 @@
-use Rattle.std.proofs.Common.{◌≡◌, ◌++◌, Err, ap, codes, rules, sym, subst, ◌∙◌}
+use Rattle.std.proofs.Common.{◌≡◌, ◌++◌, Err, codes, rules, sym, subst}
 use Rattle.sc_script.specs.Scripts.{script_of}
 use Rattle.sc_script.proofs.StepLemmas.{no_step_in}
 use Rattle.sc_top.specs.Journals.{disk_known}
@@ -11,17 +11,14 @@ use Rattle.sc_top.proofs.SayingLemmas.{script_leaves, script_says}
 use Rattle.sc_top.proofs.program.run_text.Goals as goal
 
 pub run-requires-clause-steps : goal.run-requires-clause-steps
-run-requires-clause-steps g c = λ κs within. no_step_in c.as_slice.result.now c.in-Ok.script c.in-Ok.ensures.script
+run-requires-clause-steps g c = λ κs within. no_step_in c.args.text.now c.in-Ok.script c.in-Ok.ensures.script
 
 pub returns-in-Ok-clause-ok : goal.returns-in-Ok-clause-ok
-returns-in-Ok-clause-ok g c =
-    script_says _ c.args.steps.workers c.args.steps.budget _ c.in-Ok.script c.run.result
-    (ap script_of (sym c.as_slice.ensures.value) ∙ c.in-Ok.ensures.script) c.run.ensures.ok
+returns-in-Ok-clause-ok g c = script_says _ c.args.steps.workers c.args.steps.budget _ c.in-Ok.script c.run.result c.in-Ok.ensures.script c.run.ensures.ok
 
 pub returns-in-Ok-clause-err : goal.returns-in-Ok-clause-err
 returns-in-Ok-clause-err g c =
-    script_leaves _ c.args.steps.workers c.args.steps.budget _ c.in-Ok.script c.run.result
-    (ap script_of (sym c.as_slice.ensures.value) ∙ c.in-Ok.ensures.script) c.run.ensures.err
+    script_leaves _ c.args.steps.workers c.args.steps.budget _ c.in-Ok.script c.run.result c.in-Ok.ensures.script c.run.ensures.err
 
 pub returns-in_err-script_fault_line-in-Err-Fault-clause-err :
     goal.returns-in_err-script_fault_line-in-Err-Fault-clause-err
@@ -36,11 +33,10 @@ returns-in_ok-script_fault_line-in-Err-Fault-clause-ok g c =
     let fault = c.in-Err-Fault.fault in
     let workers = c.args.steps.workers in
     let budget = c.args.steps.budget in
-    let text = c.args.text.items in
+    let text = c.args.text.now in
     let k = disk_known g.D.Disk.tells g.D.Disk.reads g.D.Disk.may_leave g.D.Disk.faults c.args.disk.now c.args.disk.now in
     let said = line (codes "script " ++ script_fault_text fault) in
     let is_said : said ≡ c.in_ok-script_fault_line-in-Err-Fault.field-0 = search rules in
-    let spelled : script_of text ≡ Err fault =
-    ap script_of (sym c.as_slice.ensures.value) ∙ c.in-Err-Fault.ensures.fault fault (cc) in
+    let spelled : script_of text ≡ Err fault = c.in-Err-Fault.ensures.fault fault (cc) in
     subst (λ t. SaysOfScript k workers budget (script_of text) BadScript t) is_said
     (subst (λ s. SaysOfScript k workers budget s BadScript said) (sym spelled) (no_script fault (λ told image may. may)))
