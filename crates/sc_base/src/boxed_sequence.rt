@@ -6,8 +6,8 @@ use crate::sequence::Sequence;
 use std::alloc::{AllocError, Global};
 use std::marker::Model;
 
-/// A list that is mostly empty and never changes, which contracts see as the list of its items. It takes less room than a
-/// [`Sequence`], and memory of its own only where it has items.
+/// A list that is mostly empty and never changes, which contracts see as the list of its items. It takes less room than
+/// a [`Sequence`], and memory of its own only where it has items.
 #[derive(Debug, Drop)]
 pub struct BoxedSequence<T> {
     items: Option<Box<Sequence<T>>>,

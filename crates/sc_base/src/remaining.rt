@@ -3,8 +3,8 @@ ghost use Rattle.std.specs.Prelude.{◌≡◌, [], ◌∷◌, MatchOption};
 use crate::sequence::Sequence;
 use std::marker::Model;
 
-/// The items of a list that are still to be taken, the first of them first. Memory is given back as they are taken: there
-/// is never room for more than twice as many as are left.
+/// The items of a list that are still to be taken, the first of them first. Memory is given back as they are taken:
+/// there is never room for more than twice as many as are left.
 #[derive(Debug, Drop)]
 pub struct Remaining<T> {
     /// The one to be taken next stands last.

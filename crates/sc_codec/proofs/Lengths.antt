@@ -32,19 +32,35 @@ module _ (weight : Value → ℕ) (truth : (b : Bool) → 2 ≤ weight (Truth b)
   items_light : (vs : List Light) → length (flat_map value_field (values vs)) ≤ sum_by weight (values vs)
   items_light [] = omega arith
   items_light (v ∷ vs) =
-      omega (arith, v.1, items_light vs, length-append (value_field v.0) (flat_map value_field (values vs)),
-      sum_by-cons weight v.0 (values vs))
+      omega (
+        arith,
+        v.1,
+        items_light vs,
+        length-append (value_field v.0) (flat_map value_field (values vs)),
+        sum_by-cons weight v.0 (values vs),
+      )
 
   list_light : (vs : List Light) → IsLight (Listed (values vs))
   list_light vs =
       let count = length (values vs) in
-      omega (arith, ap length (list-field (values vs)), listed (values vs), items_light vs,
-      length-append (number_field 2 count) (flat_map value_field (values vs)), length-number_field 2 count)
+      omega (
+        arith,
+        ap length (list-field (values vs)),
+        listed (values vs),
+        items_light vs,
+        length-append (number_field 2 count) (flat_map value_field (values vs)),
+        length-number_field 2 count,
+      )
 
   text_light : (bytes : List ℕ) → IsLight (Text bytes)
   text_light bytes =
-      omega (arith, ap length (text-field bytes), text bytes, length-append (number_field 4 (length bytes)) bytes,
-      length-number_field 4 (length bytes))
+      omega (
+        arith,
+        ap length (text-field bytes),
+        text bytes,
+        length-append (number_field 4 (length bytes)) bytes,
+        length-number_field 4 (length bytes),
+      )
 
   layer_light : (x : Value-F Light) → IsLight (roll-Value (bare x))
   layer_light (Value-F.Bool b) =
@@ -66,15 +82,26 @@ module _ (weight : Value → ℕ) (truth : (b : Bool) → 2 ≤ weight (Truth b)
   all_light : (ps : List Pair) → length (flat_map pair_field ps) ≤ sum_by pair_weight ps
   all_light [] = omega arith
   all_light (p ∷ ps) =
-      omega (arith, length-append (pair_field p) (flat_map pair_field ps), all_light ps, sum_by-cons pair_weight p ps,
-      length-append (name_field p.0) (value_field p.1), length-append (number_field 2 (length p.0)) p.0,
-      length-number_field 2 (length p.0), value_light p.1)
+      omega (
+        arith,
+        length-append (pair_field p) (flat_map pair_field ps),
+        all_light ps,
+        sum_by-cons pair_weight p ps,
+        length-append (name_field p.0) (value_field p.1),
+        length-append (number_field 2 (length p.0)) p.0,
+        length-number_field 2 (length p.0),
+        value_light p.1,
+      )
 
   -- and pairs have no more than 2 and what they weigh
   pub pairs_light : (ps : List Pair) → length (pairs_field ps) ≤ 2 + sum_by pair_weight ps
   pairs_light ps =
-      omega (arith, length-append (number_field 2 (length ps)) (flat_map pair_field ps),
-      length-number_field 2 (length ps), all_light ps)
+      omega (
+        arith,
+        length-append (number_field 2 (length ps)) (flat_map pair_field ps),
+        length-number_field 2 (length ps),
+        all_light ps,
+      )
 
 -- the bytes of a name
 pub length-name : (name : List ℕ) → length (name_field name) ≡ 2 + length name
@@ -85,8 +112,13 @@ length-name name =
 
 pub length-install : (name chart : List ℕ) → length (body_of (Install name chart)) ≡ 7 + length name + length chart
 length-install name chart =
-    omega (arith, length-append (name_field name) (bytes_field chart), length-name name,
-    length-append (number_field 4 (length chart)) chart, length-number_field 4 (length chart))
+    omega (
+      arith,
+      length-append (name_field name) (bytes_field chart),
+      length-name name,
+      length-append (number_field 4 (length chart)) chart,
+      length-number_field 4 (length chart),
+    )
 
 pub length-start : (session chart : List ℕ)
     → length (body_of (Start session chart)) ≡ 5 + length session + length chart
@@ -96,8 +128,13 @@ length-start session chart =
 pub length-post : (session event : List ℕ) (pairs : List Pair)
     → length (body_of (Post session event pairs)) ≡ 5 + length session + length event + length (pairs_field pairs)
 length-post session event pairs =
-    omega (arith, length-append (name_field session) (name_field event ++ pairs_field pairs),
-    length-append (name_field event) (pairs_field pairs), length-name session, length-name event)
+    omega (
+      arith,
+      length-append (name_field session) (name_field event ++ pairs_field pairs),
+      length-append (name_field event) (pairs_field pairs),
+      length-name session,
+      length-name event,
+    )
 
 pub length-tick : (ticks : ℕ) → length (body_of (Tick ticks)) ≡ 9
 length-tick ticks = omega (arith, length-number_field 8 ticks)
