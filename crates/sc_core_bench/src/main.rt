@@ -1,6 +1,6 @@
 //! Work for bench/host.sh to time: each line of the input names a kind of command, how many sessions and pending sends
-//! the host holds, a number of rounds, and how many of the sessions take commands. It is answered by the first three and a
-//! count, which doesn't depend on time.
+//! the host holds, a number of rounds, and how many of the sessions take commands. It is answered by the first three and
+//! a count, which doesn't depend on time.
 #![tactic(auto)]
 
 mod commands;
