@@ -7,7 +7,7 @@ use std::alloc::{AllocError, Global};
 use std::marker::Model;
 
 /// Bytes that never change and that most values lack, as the ids and the origin of an event. Contracts see them as a
-/// list of numbers. The value itself is no more than a pointer, and its bytes, where it has any, have a count of owners:
+/// list of numbers. The value itself takes 16 bytes, and its bytes, where it has any, have a count of owners:
 /// a copy allocates nothing.
 #[derive(Debug, Drop)]
 pub struct SharedBytes {

@@ -151,7 +151,7 @@ invoked_send = as_row_send invoked.the_field invoked_parts.the_field_send
 
 entry_send : IsSend entry.the_row
 entry_send = declared_send entry.the_type
-    (who_send, (command_send, (reply_send, (boxed_sequence.the_send _ log_line_send, (sequence.the_send _ delivery_send, tt)))))
+    (reply_send, (who_send, (command_send, (boxed_sequence.the_send _ log_line_send, (sequence.the_send _ delivery_send, tt)))))
 
 ruleset small = (option_send, invoked_send, base, crosses, sendable)
 
