@@ -10,8 +10,8 @@ use sc_law::Engine;
 use sc_rooms::Places;
 use std::marker::Model;
 
-/// A host over a journal that was opened, and what happened since. Every accepted command stands in the journal before it
-/// is acknowledged.
+/// A host over a journal that was opened, and what happened since. Every accepted command stands in the journal before
+/// it is acknowledged.
 #[derive(Drop)]
 pub struct Book<'e, E: Engine, D: Disk> {
     pub(crate) engine: &'e E,

@@ -24,8 +24,8 @@ use sc_types::{Command, Entry, Who};
 use std::alloc::Global;
 
 impl<'e, E: Engine, D: Disk> Book<'e, E, D> {
-    /// Answers a command of a caller, and adds its entry to the history. Where the host accepts it, it stands in the journal
-    /// then, and every stop of the machine leaves it there. A command that the host refuses is answered too.
+    /// Answers a command of a caller, and adds its entry to the history. Where the host accepts it, it stands in the
+    /// journal then, and every stop of the machine leaves it there. A command that the host refuses is answered too.
     ///
     /// Four device calls are made for an accepted command, and two before it where an earlier fault left a command in
     /// doubt. All memory is taken before the first of the four. A command with a value past the limits of values is
@@ -82,7 +82,8 @@ impl<'e, E: Engine, D: Disk> Book<'e, E, D> {
         Ok(())
     }
 
-    /// Answers a command where nothing is in doubt; a step with the turn that a worker computed of it, where there is one.
+    /// Answers a command where nothing is in doubt; a step with the turn that a worker computed of it, where there is
+    /// one.
     pub(crate) fn answer(
         &mut self,
         alloc: Global,

@@ -30,8 +30,8 @@ fn step_at<E: Engine>(host: &HostState<E>, place: usize) -> Result<Command, NoMe
 }
 
 impl<'e, E: Engine, D: Disk> Book<'e, E, D> {
-    /// Answers the step of a session that was claimed, as `call` does, and ends its claim. What a worker computed is used
-    /// where it is the session's turn still; where something came between, as a cancel, the turn is computed anew.
+    /// Answers the step of a session that was claimed, as `call` does, and ends its claim. What a worker computed is
+    /// used where it is the session's turn still; where something came between, as a cancel, the turn is computed anew.
     pub fn commit(
         &mut self,
         alloc: Global,

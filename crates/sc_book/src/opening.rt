@@ -137,7 +137,8 @@ fn replay_from<E: Engine>(
 }
 
 impl<'e, E: Engine, D: Disk> Book<'e, E, D> {
-    /// Opens the journal of a disk, and makes the commands that it holds once more. The disk comes back where that fails.
+    /// Opens the journal of a disk, and makes the commands that it holds once more. The disk comes back where that
+    /// fails.
     pub fn open(alloc: Global, engine: &'e E, disk: D) -> Result<Book<'e, E, D>, NotOpened<D>>
         ensures opened { IfOk result (IsOpened D.tells D.may_leave D.may_have_left D.moment) }
 
@@ -187,7 +188,8 @@ impl<'e, E: Engine, D: Disk> Book<'e, E, D> {
     ) -> Result<Book<'e, E, D>, NotOpened<D>>
         requires settled { opened.journal.doubt ≡ None }
         requires next { opened.journal.next ≡ opened.first + length opened.bodies }
-        requires keeps { D.tells → Keeps D.tells D.may_leave opened.journal (record { format = 1; first = opened.first })
+        requires keeps { D.tells → Keeps D.tells D.may_leave opened.journal
+            (record { format = 1; first = opened.first })
             opened.bodies }
         ensures opened { IfOk result (IsOpened D.tells D.may_leave D.may_have_left D.moment) }
         ensures book { IfOk result (λ b. b.journal ≡ opened.journal) }

@@ -10,8 +10,8 @@ use sc_types::Cue;
 use std::alloc::Global;
 use std::marker::Model;
 
-/// A session that was taken to step: no other worker gets it until this is spent, by a commit or an abandon. One that is
-/// dropped leaves its claim open.
+/// A session that was taken to step: no other worker gets it until this is spent, by a commit or an abandon. One that
+/// is dropped leaves its claim open.
 #[derive(Drop)]
 pub struct Ticket<E: Engine> {
     place: usize,

@@ -96,8 +96,8 @@ pub(crate) fn birth_place(births: &Sequence<Placed>, name: &Word) -> Option<usiz
 }
 
 impl<P: Drop> Body<P> {
-    /// The place of the session of a name while it lives, once the state of the session at a place is this one, and these
-    /// are born.
+    /// The place of the session of a name while it lives, once the state of the session at a place is this one, and
+    /// these are born.
     pub(crate) fn live_place(
         &self,
         births: &Sequence<Placed>,

@@ -62,7 +62,8 @@ impl<P: Drop> Body<P> {
     /// The invoker of the session at a place.
     pub(crate) fn invoker_at(&self, place: usize) -> &Option<InvokerImage>
         requires within { place < length self.now.sessions.items }
-        ensures { option_map (λ (s : SessionImage). s.invoker) (slice_get (image self.now).sessions place) ≡ Some result.now }
+        ensures { option_map (λ (s : SessionImage). s.invoker) (slice_get (image self.now).sessions place)
+            ≡ Some result.now }
     {
         match self.sessions.get(place) {
             Some(session) => &session.invoker,
@@ -81,7 +82,8 @@ impl<P: Drop> Body<P> {
     ) -> Result<Delivery, NoMemory>
         ensures told { IfOk result (λ told. (g : HostImage) (t : SessionImage) (e : Event)
             → IsSender (image self.now) place after.now g draft.old t → e.sendid ≡ sendid.now
-            → Drafts (stepper after.now.session place) g draft.old draft.new (unreachable (so_far g draft.old) place t e) told) }
+            → Drafts (stepper after.now.session place) g draft.old draft.new
+            (unreachable (so_far g draft.old) place t e) told) }
         ensures number { OnOk result (draft.new.events ≤ draft.old.events + 1) }
     {
         if !is_running(&after.phase) {
@@ -188,7 +190,8 @@ impl<P: Drop> Body<P> {
     ) -> Result<Delivery, NoMemory>
         ensures told { IfOk result (λ told. (g : HostImage) (t : SessionImage)
             → IsSender (image self.now) place after.now g draft.old t
-            → Drafts (stepper after.now.session place) g draft.old draft.new (delay_send (so_far g draft.old) t to event delay) told) }
+            → Drafts (stepper after.now.session place) g draft.old draft.new
+            (delay_send (so_far g draft.old) t to event delay) told) }
         ensures number { OnOk result (draft.new.events ≤ draft.old.events + 1) }
     {
         if !may_delay(&after.phase, draft.delayed) {
@@ -211,7 +214,8 @@ impl<P: Drop> Body<P> {
     /// How many sends of a session have an id after the changes so far.
     fn pending(&self, draft: &Draft<P>, session: &Word, id: &SharedBytes) -> Result<u64, NoMemory>
         ensures { IfOk result (λ n. (g : HostImage) (place : ℕ) → g.timers ≡ self.now.timers.sends
-            → IsDraft (stepper session.now place) g draft.now → n ≡ count_by (is_send session.now id.now) (so_far g draft.now).timers) }
+            → IsDraft (stepper session.now place) g draft.now
+            → n ≡ count_by (is_send session.now id.now) (so_far g draft.now).timers) }
     {
         let mut count = self.timers.count(session.bytes(), id.slice());
         let mut place = 0;
@@ -234,7 +238,8 @@ impl<P: Drop> Body<P> {
     ) -> Result<Delivery, NoMemory>
         ensures told { IfOk result (λ told. (g : HostImage) (t : SessionImage)
             → IsSender (image self.now) place after.now g draft.old t
-            → Drafts (stepper after.now.session place) g draft.old draft.new (undo (so_far g draft.old) t sendid) told) }
+            → Drafts (stepper after.now.session place) g draft.old draft.new
+            (undo (so_far g draft.old) t sendid) told) }
         ensures number { OnOk result (draft.new.events ≤ draft.old.events + 1) }
     {
         if sendid.slice().is_empty() {
@@ -264,7 +269,8 @@ impl<P: Drop> Body<P> {
         requires number { draft.old.events + 1 < 2 ^ 128 }
         ensures told { IfOk result (λ told. (g : HostImage) (t : SessionImage)
             → IsSender (image self.now) place after.now g draft.old t
-            → Drafts (stepper after.now.session place) g draft.old draft.new (deliver_of (so_far g draft.old) place t effect) told) }
+            → Drafts (stepper after.now.session place) g draft.old draft.new
+            (deliver_of (so_far g draft.old) place t effect) told) }
         ensures number { OnOk result (draft.new.events ≤ draft.old.events + 1) }
     {
         match effect {
@@ -314,7 +320,8 @@ impl<P: Drop> Body<P> {
         requires number { draft.old.events + 1 < 2 ^ 128 }
         ensures notes { OnOk result ((g : HostImage) (t : SessionImage)
             → IsSender (image self.now) place after.now g draft.old t
-            → Notes (stepper after.now.session place) g draft.old draft.new (deliver (so_far g draft.old) place effect)) }
+            → Notes (stepper after.now.session place) g draft.old draft.new
+            (deliver (so_far g draft.old) place effect)) }
         ensures number { OnOk result (draft.new.events ≤ draft.old.events + 1) }
     {
         let what = self.draft_delivery(alloc, draft, place, after, effect)?;

@@ -133,7 +133,8 @@ impl<P: Drop> Body<P> {
         child: usize,
     ) -> Result<(), NoMemory>
         ensures { OnOk result (left.new
-            ≡ left.old ++ put_left (option_and_then (left_if changes.now place child) (slice_get self.now.sessions.items child)) []) }
+            ≡ left.old ++ put_left (option_and_then (left_if changes.now place child)
+            (slice_get self.now.sessions.items child)) []) }
     {
         let Some(session) = self.sessions.get(child) else {
             return Ok(());
@@ -254,7 +255,8 @@ impl<P: Drop> Body<P> {
         requires there { option_map (λ (s : SessionImage). s.state.session) (slice_get (image self.now).sessions place)
             ≡ Some after.now.session }
         requires number { draft.old.events + 1 < 2 ^ 128 }
-        ensures { OnOk result ((g : HostImage) (t : SessionImage) → IsSender (image self.now) place after.now g draft.old t
+        ensures { OnOk result ((g : HostImage) (t : SessionImage)
+            → IsSender (image self.now) place after.now g draft.old t
             → after.now.phase ≡ Phase.Ended how.now → DraftsEnd (so_far g draft.old) place draft.old draft.new) }
     {
         let mut left = self.old_children(alloc, &draft.changes, place)?;
@@ -277,7 +279,8 @@ impl<P: Drop> Body<P> {
         requires there { option_map (λ (s : SessionImage). s.state.session) (slice_get (image self.now).sessions place)
             ≡ Some after.now.session }
         requires number { draft.old.events + 1 < 2 ^ 128 }
-        ensures { OnOk result ((g : HostImage) (t : SessionImage) → IsSender (image self.now) place after.now g draft.old t
+        ensures { OnOk result ((g : HostImage) (t : SessionImage)
+            → IsSender (image self.now) place after.now g draft.old t
             → DraftsEnd (so_far g draft.old) place draft.old draft.new) }
     {
         match &after.phase {

@@ -36,7 +36,8 @@ fn is_of(turned: &Turned, chart: &Chart, before: &SessionState, cue: &Cue) -> bo
 fn is_turn_of<E: Engine>(body: &Body<E::Plan>, place: usize, cue: &Cue, turned: &Turned) -> bool
     requires held { IsHeld E.chart_of body.now }
     requires within { place < length body.now.sessions.items }
-    requires settled { option_map (λ (s : Session). s.failures.items) (slice_get body.now.sessions.items place) ≡ Some [] }
+    requires settled { option_map (λ (s : Session). s.failures.items) (slice_get body.now.sessions.items place)
+        ≡ Some [] }
     ensures { IsTrue result → (s : SessionImage) → slice_get (image body.now).sessions place ≡ Some s
         → IsTurnOf (chart_named (image body.now) s.state.chart) s.state cue.now turned.now }
 {
@@ -62,7 +63,8 @@ pub(crate) fn turn_by<E: Engine>(
 ) -> Result<Turned, NoMemory>
     requires held { IsHeld E.chart_of body.now }
     requires within { place < length body.now.sessions.items }
-    requires settled { option_map (λ (s : Session). s.failures.items) (slice_get body.now.sessions.items place) ≡ Some [] }
+    requires settled { option_map (λ (s : Session). s.failures.items) (slice_get body.now.sessions.items place)
+        ≡ Some [] }
     requires cue { (s : SessionImage) → slice_get (image body.now).sessions place ≡ Some s → cue_of s ≡ Some cue.now }
     ensures turn { IfOk result (λ t. (s : SessionImage) → slice_get (image body.now).sessions place ≡ Some s
         → IsTurnOf (chart_named (image body.now) s.state.chart) s.state cue.now t) }

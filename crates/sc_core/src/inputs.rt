@@ -15,8 +15,8 @@ use sc_types::{Cue, SessionState};
 use std::alloc::Global;
 use std::sync::Arc;
 
-/// What an engine computes the turn of a session from, in copies: the plan of its chart, its state with all that waits in
-/// its internal queue, and its cue.
+/// What an engine computes the turn of a session from, in copies: the plan of its chart, its state with all that waits
+/// in its internal queue, and its cue.
 #[derive(Drop)]
 pub struct TurnInput<P> {
     pub plan: Arc<P>,
@@ -32,7 +32,8 @@ fn input_of<E: Engine>(
     cue: Cue,
 ) -> Result<TurnInput<E::Plan>, NoMemory>
     requires held { IsHeld E.chart_of body.now }
-    requires settled { option_map (λ (s : Session). s.failures.items) (slice_get body.now.sessions.items place) ≡ Some [] }
+    requires settled { option_map (λ (s : Session). s.failures.items) (slice_get body.now.sessions.items place)
+        ≡ Some [] }
     requires cue { (s : SessionImage) → slice_get (image body.now).sessions place ≡ Some s → cue_of s ≡ Some cue }
     ensures { IfOk result (λ i. (s : SessionImage) → slice_get (image body.now).sessions place ≡ Some s
         → IsInput E.chart_of (image body.now) s i) }
@@ -49,8 +50,8 @@ fn input_of<E: Engine>(
 }
 
 impl<E: Engine> HostState<E> {
-    /// What the next turn of the session at a place is computed from, so that an engine may compute it elsewhere; `None`
-    /// where it has no cue.
+    /// What the next turn of the session at a place is computed from, so that an engine may compute it elsewhere;
+    /// `None` where it has no cue.
     pub fn turn_input(
         &mut self,
         alloc: Global,

@@ -90,7 +90,8 @@ impl<P: Drop> Body<P> {
     fn is_taken(&self, births: &Sequence<Placed>, name: &Word) -> bool
         requires agrees { Agrees self.now }
         ensures { (state : SessionState) (place : ℕ) (h : HostImage)
-            → option_map (λ (s : SessionImage). s.state.session) (slice_get (image self.now).sessions place) ≡ Some state.session
+            → option_map (λ (s : SessionImage). s.state.session) (slice_get (image self.now).sessions place)
+            ≡ Some state.session
             → IsGrown (put_state (image self.now) place state) births.now h
             → result ≡ is_some (session_place h name.now) }
     {
@@ -101,7 +102,8 @@ impl<P: Drop> Body<P> {
     fn may_bear(&self, births: &Sequence<Placed>, depth: u32, invocation: &Invocation) -> bool
         requires agrees { Agrees self.now }
         ensures may { (state : SessionState) (place : ℕ) (h : HostImage) (t : SessionImage)
-            → option_map (λ (s : SessionImage). s.state.session) (slice_get (image self.now).sessions place) ≡ Some state.session
+            → option_map (λ (s : SessionImage). s.state.session) (slice_get (image self.now).sessions place)
+            ≡ Some state.session
             → IsGrown (put_state (image self.now) place state) births.now h → h.charts ≡ (image self.now).charts
             → t.depth ≡ depth → result ≡ may_bear h t invocation.now.child invocation.now.chart }
         ensures deep { result ≡ true → depth < 16 }
@@ -138,7 +140,8 @@ impl<P: Drop> Body<P> {
             ≡ Some after.now.session }
         requires new { (g : HostImage) (t : SessionImage) → IsSender (image self.now) place after.now g draft.old t
             → session_place (so_far g draft.old) invocation.child ≡ None }
-        requires depth { option_map (λ (s : SessionImage). s.depth + 1) (slice_get (image self.now).sessions place) ≡ Some depth }
+        requires depth { option_map (λ (s : SessionImage). s.depth + 1) (slice_get (image self.now).sessions place)
+            ≡ Some depth }
         ensures told { IfOk result (λ told. (g : HostImage) (t : SessionImage)
             → IsSender (image self.now) place after.now g draft.old t
             → Drafts (stepper after.now.session place) g draft.old draft.new

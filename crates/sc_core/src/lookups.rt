@@ -29,7 +29,8 @@ impl<E: Engine> HostState<E> {
         self.body.timers.len()
     }
 
-    /// The state of the session at a place. What the host put behind its internal queue since its last turn is not in it.
+    /// The state of the session at a place. What the host put behind its internal queue since its last turn is not in
+    /// it.
     pub fn state(&self, place: usize) -> &SessionState
         requires within { place < length self.now.image.sessions }
         ensures { (s : SessionImage) → slice_get self.now.image.sessions place ≡ Some s

@@ -60,8 +60,8 @@ fn with_room(
     Ok(session)
 }
 
-/// The same changes, where each session that is born has room for so many events, if any of those sessions may get some.
-/// The first is born at a place.
+/// The same changes, where each session that is born has room for so many events, if any of those sessions may get
+/// some. The first is born at a place.
 pub(crate) fn with_rooms<P: Drop>(
     alloc: Global,
     mut changes: Queue<Change<P>>,

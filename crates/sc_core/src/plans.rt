@@ -55,7 +55,8 @@ pub(crate) fn turn_of<E: Engine>(
     cue: &Cue,
 ) -> Result<Turned, NoMemory>
     requires held { IsHeld E.chart_of body.now }
-    requires settled { option_map (λ (s : Session). s.failures.items) (slice_get body.now.sessions.items place) ≡ Some [] }
+    requires settled { option_map (λ (s : Session). s.failures.items) (slice_get body.now.sessions.items place)
+        ≡ Some [] }
     requires cue { (s : SessionImage) → slice_get (image body.now).sessions place ≡ Some s → cue_of s ≡ Some cue.now }
     ensures turn { IfOk result (λ t. (s : SessionImage) → slice_get (image body.now).sessions place ≡ Some s
         → IsTurnOf (chart_named (image body.now) s.state.chart) s.state cue.now t) }

@@ -6,8 +6,8 @@ ghost use Rattle.sc_core.specs.Bodies.{session_image};
 use sc_rooms::RoomyQueue;
 use sc_types::{Event, InvokerImage, Phase, SessionState};
 
-/// A session as the host's body holds it. What a post and a cancel look at stands together: among many sessions, each line
-/// of memory that a command touches is cold.
+/// A session as the host's body holds it. What a post and a cancel look at stands together: among many sessions, each
+/// line of memory that a command touches is cold.
 #[derive(Debug, Drop)]
 pub struct Session {
     pub(crate) invoker: Option<InvokerImage>,

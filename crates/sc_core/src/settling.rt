@@ -6,8 +6,8 @@ use crate::body::Body;
 use crate::session::Session;
 use sc_base::{NoMemory, Plain};
 
-/// Moves what the host put behind an internal queue into the queue itself, where a turn finds it. Out of memory, some of
-/// it stays behind; the session is the same in any case.
+/// Moves what the host put behind an internal queue into the queue itself, where a turn finds it. Out of memory, some
+/// of it stays behind; the session is the same in any case.
 fn settle(session: &mut Session) -> Result<(), NoMemory>
     ensures image { session_image session.new ≡ session_image session.old }
     ensures settled { OnOk result (session.new.failures.items ≡ []) }

@@ -97,7 +97,8 @@ fn put_deliveries<K: Sink>(out: &mut Outlet<'_, K>, sent: &[Delivery])
 
 /// The line of a command that has this number in its history.
 fn put_command_line<K: Sink>(out: &mut Outlet<'_, K>, number: usize, who: Who, command: &Command)
-    ensures { Writes K.taken K.faults out.old out.new (line (decimal number ++ codes " " ++ who_text who ++ codes " " ++ command_text command.now)) }
+    ensures { Writes K.taken K.faults out.old out.new
+        (line (decimal number ++ codes " " ++ who_text who ++ codes " " ++ command_text command.now)) }
 {
     out.number(number);
     out.bytes(b" ");

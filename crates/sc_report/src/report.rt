@@ -55,7 +55,8 @@ fn finish_report<D, K: Sink>(
 
 /// Writes the line of a chart's first fault. It takes no memory.
 pub fn write_fault<K: Sink>(fault: &ChartFault, sink: &mut K) -> Result<(), Failed>
-    ensures whole { OnOk result (Appends (K.taken sink.old) (K.taken sink.new) (line (codes "chart " ++ fault_text fault.now))) }
+    ensures whole { OnOk result (Appends (K.taken sink.old) (K.taken sink.new)
+        (line (codes "chart " ++ fault_text fault.now))) }
     ensures part { OnErr result (AppendsPart (K.taken sink.old) (K.taken sink.new)
         (line (codes "chart " ++ fault_text fault.now))) }
     ensures cause { HasCause (K.faults sink.old) (K.faults sink.new) result }

@@ -62,7 +62,8 @@ fn put_data<K: Sink>(out: &mut Outlet<'_, K>, values: &[(PlainName, Option<Value
 }
 
 fn put_active<K: Sink>(out: &mut Outlet<'_, K>, plan: &Plan, state: &SessionState)
-    ensures { Writes K.taken K.faults out.old out.new (line (codes "live in" ++ flat_map (state_text plan.now) state.now.configuration)) }
+    ensures { Writes K.taken K.faults out.old out.new
+        (line (codes "live in" ++ flat_map (state_text plan.now) state.now.configuration)) }
 {
     out.bytes(b"live in");
     put_ids(out, plan, state.configuration.slice());

@@ -73,7 +73,8 @@ fn put_summary<D, K: Sink>(
 }
 
 fn put_drawn<K: Sink>(out: &mut Outlet<'_, K>, number: u64, size: u32)
-    ensures { Writes K.taken K.faults out.old out.new (line (codes "gen " ++ decimal number ++ codes " " ++ decimal size)) }
+    ensures { Writes K.taken K.faults out.old out.new
+        (line (codes "gen " ++ decimal number ++ codes " " ++ decimal size)) }
 {
     out.counted(b"gen ", number);
     out.bytes(b" ");

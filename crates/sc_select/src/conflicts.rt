@@ -113,7 +113,8 @@ pub(crate) fn without_conflicts(
     requires own_width { own.now.width ≡ state_count t.now }
     requires own { own.now.members ≡ exit_set t.now h.now (tr ∷ []) conf.now.members }
     requires into { into.old.width ≡ state_count t.now }
-    ensures value { IfOk result (λ rest. rest ≡ filter (λ u. not (conflicts t.now h.now conf.now.members tr u)) kept.now) }
+    ensures value { IfOk result (λ rest. rest ≡ filter
+        (λ u. not (conflicts t.now h.now conf.now.members tr u)) kept.now) }
     ensures width { into.new.width ≡ state_count t.now }
 {
     let mut rest = ShortList::new(alloc);

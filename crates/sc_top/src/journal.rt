@@ -68,7 +68,8 @@ pub(crate) fn run<R: Threads + Wait + Sync, D: Disk, G: Gate>(
     requires steps { HasNoStep script }
     ensures ok { IfOk result (λ s. Runs (disk_known D.tells D.reads D.may_leave D.faults disk.old disk.new)
         (account form) script steps.workers steps.budget (status_of s) (text_of s)) }
-    ensures err { OnErr result (LeftBy (disk_known D.tells D.reads D.may_leave D.faults disk.old disk.new) script steps.workers
+    ensures err { OnErr result (LeftBy (disk_known D.tells D.reads D.may_leave D.faults disk.old disk.new) script
+        steps.workers
         steps.budget) }
 {
     match Book::open(alloc, &Compiled, disk) {
@@ -114,7 +115,8 @@ fn tell<D: Disk>(
     form: Form,
     ended: &mut Ended<Compiled, D>,
 ) -> Result<Saying, NoMemory>
-    ensures told { IfOk result (λ s. IsTold (account form) ended.old.fault ended.old.closed.opened ended.old.closed.host.image
+    ensures told { IfOk result (λ s. IsTold (account form) ended.old.fault ended.old.closed.opened
+        ended.old.closed.host.image
         ended.old.closed.history.entries (status_of s) (text_of s)) }
     ensures disk { ended.new.closed.disk ≡ ended.old.closed.disk }
 {

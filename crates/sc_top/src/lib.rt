@@ -1,5 +1,6 @@
-//! The host as a program: makes a journal; runs a script on the host that a journal holds, and writes the report, or runs
-//! one that is drawn from a number, and writes its summary; tells that host; or reads a chart, and says whether it is one.
+//! The host as a program: makes a journal; runs a script on the host that a journal holds, and writes the report, or
+//! runs one that is drawn from a number, and writes its summary; tells that host; or reads a chart, and says whether it
+//! is one.
 #![tactic(auto)]
 
 mod check;

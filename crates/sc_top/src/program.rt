@@ -30,23 +30,24 @@ use std::thread::Threads;
 
 /// Runs the program with the words after its name, and answers its exit status.
 ///
-/// `init` makes a journal on the disk, and the sink takes `created`. With the word `run` the source has a script, which is
-/// run on the host that the journal holds, and the sink takes the report: with `--workers 0` on one thread, and else the
-/// set-up first, and then each client and each of so many workers, two without the option, in a thread of its own.
-/// `--budget N` bounds the steps; without it they are 1,000,000. `gen NUMBER SIZE` runs on one thread the script that is
-/// drawn from the number, and the sink takes the summary. `show` tells that host. With the word `check` the source has a
-/// chart, and the sink takes `ok` and the number of its states, or, with the status 3, `chart` and its first fault.
+/// `init` makes a journal on the disk, and the sink takes `created`. With the word `run` the source has a script, which
+/// is run on the host that the journal holds, and the sink takes the report: with `--workers 0` on one thread, and else
+/// the set-up first, and then each client and each of so many workers, two without the option, in a thread of its own.
+/// `--budget N` bounds the steps; without it they are 1,000,000. `gen NUMBER SIZE` runs on one thread the script that
+/// is drawn from the number, and the sink takes the summary. `show` tells that host. With the word `check` the source
+/// has a chart, and the sink takes `ok` and the number of its states, or, with the status 3, `chart` and its first
+/// fault.
 ///
-/// On one thread a run ends at its first fault of the disk, with the status 6, and where the journal has no room for its
-/// next command, with 10. With workers a thread ends so, and the others go on; the status is that of the worst fault, of
-/// the disk before a full journal. After 8 the steps were used up. After all three the sink has taken the report, which
-/// ends so. Else the sink takes the line that names the status: 1 `words`, 2 `script` with the first faulty line and its
-/// cause, 4 `read`, 6 `disk`, 9 `damaged` and the place or `entry` and the number, 11 `exists`. After 5, the sink failed
-/// and has taken the first part of what was to be written; after 7 the program was out of memory, and nothing was written,
-/// but a run may have been journaled in part.
+/// On one thread a run ends at its first fault of the disk, with the status 6, and where the journal has no room for
+/// its next command, with 10. With workers a thread ends so, and the others go on; the status is that of the worst
+/// fault, of the disk before a full journal. After 8 the steps were used up. After all three the sink has taken the
+/// report, which ends so. Else the sink takes the line that names the status: 1 `words`, 2 `script` with the first
+/// faulty line and its cause, 4 `read`, 6 `disk`, 9 `damaged` and the place or `entry` and the number, 11 `exists`.
+/// After 5, the sink failed and has taken the first part of what was to be written; after 7 the program was out of
+/// memory, and nothing was written, but a run may have been journaled in part.
 ///
-/// Each worker passes the gate between the claim of a session and its commit. No clause says that a thread runs, or that
-/// the call returns: it waits for locks.
+/// Each worker passes the gate between the claim of a session and its commit. No clause says that a thread runs, or
+/// that the call returns: it waits for locks.
 pub fn top<R: Threads + Wait + Sync, S: Source, K: Sink, D: Disk, G: Gate>(
     rt: &R,
     alloc: Global,
@@ -56,7 +57,8 @@ pub fn top<R: Threads + Wait + Sync, S: Source, K: Sink, D: Disk, G: Gate>(
     disk: &mut D,
     gate: &G,
 ) -> u8
-    ensures said { result ≢ code Status.WriteFault → result ≢ code Status.OutOfMemory → (status : Status) × (text : List ℕ)
+    ensures said { result ≢ code Status.WriteFault → result ≢ code Status.OutOfMemory
+        → (status : Status) × (text : List ℕ)
         × (result ≡ code status) × Says (asked (map string_bytes words.now))
         (known (S.left source.old) (Rose (S.faults source.old) (S.faults source.new))
         (disk_known D.tells D.reads D.may_leave D.faults disk.old disk.new)) status text
@@ -71,7 +73,8 @@ pub fn top<R: Threads + Wait + Sync, S: Source, K: Sink, D: Disk, G: Gate>(
     ensures left { result ≡ code Status.OutOfMemory → Leaves (asked (map string_bytes words.now))
         (known (S.left source.old) (Rose (S.faults source.old) (S.faults source.new))
         (disk_known D.tells D.reads D.may_leave D.faults disk.old disk.new)) }
-    ensures few { ConsumesUpTo (most_read (asked (map string_bytes words.now))) (S.left source.old) (S.left source.new) }
+    ensures few { ConsumesUpTo (most_read (asked (map string_bytes words.now))) (S.left source.old)
+        (S.left source.new) }
     ensures untouched { uses_journal (asked (map string_bytes words.now)) ≡ false → disk.new ≡ disk.old }
 {
     match answer(rt, alloc, words, source, disk, gate) {
@@ -95,7 +98,8 @@ fn answer<R: Threads + Wait + Sync, S: Source, D: Disk, G: Gate>(
     ensures left { OnErr result (Leaves (asked (map string_bytes words.now))
         (known (S.left source.old) (Rose (S.faults source.old) (S.faults source.new))
         (disk_known D.tells D.reads D.may_leave D.faults disk.old disk.new))) }
-    ensures few { ConsumesUpTo (most_read (asked (map string_bytes words.now))) (S.left source.old) (S.left source.new) }
+    ensures few { ConsumesUpTo (most_read (asked (map string_bytes words.now))) (S.left source.old)
+        (S.left source.new) }
     ensures untouched { uses_journal (asked (map string_bytes words.now)) ≡ false → disk.new ≡ disk.old }
 {
     match read_words(alloc, words) {
@@ -149,7 +153,8 @@ fn run<R: Threads + Wait + Sync, S: Source, D: Disk, G: Gate>(
     ensures left { OnErr result (Leaves (Some (Asked.Run steps.workers steps.budget))
         (known (S.left source.old) (Rose (S.faults source.old) (S.faults source.new))
         (disk_known D.tells D.reads D.may_leave D.faults disk.old disk.new))) }
-    ensures few { ConsumesUpTo (most_read (Some (Asked.Run steps.workers steps.budget))) (S.left source.old) (S.left source.new) }
+    ensures few { ConsumesUpTo (most_read (Some (Asked.Run steps.workers steps.budget))) (S.left source.old)
+        (S.left source.new) }
 {
     match read_up_to(alloc, source, SCRIPT_TEXT_LIMIT) {
         Ok(text) => run_text(rt, alloc, steps, text.as_slice(), disk, gate),

@@ -40,7 +40,8 @@ impl<'e, E: Engine, D: Disk> Run<'e, E, D> {
             (run_of self.new.book self.new.left) who command) }
         ensures err { IfErr result (λ fault. IsUnmade D.tells D.may_leave D.may_have_left D.moment D.faults fault
             (run_of self.old.book self.old.left) (run_of self.new.book self.new.left) command) }
-        ensures goes_on { GoesOn D.tells D.may_leave D.may_have_left D.moment D.faults D.identity self.old.book self.new.book }
+        ensures goes_on { GoesOn D.tells D.may_leave D.may_have_left D.moment D.faults D.identity self.old.book
+            self.new.book }
     {
         self.book.call(alloc, who, command)?;
         Ok(())
@@ -48,11 +49,14 @@ impl<'e, E: Engine, D: Disk> Run<'e, E, D> {
 
     /// Lets the ready session that was started first step, until none is ready or no step is left.
     fn step_all(&mut self, alloc: Global) -> Result<(), CallFault>
-        ensures goes { OnOk result ((cs : List Made) → Goes (run_of self.old.book self.old.left) (run_of self.new.book self.new.left) cs cs) }
+        ensures goes { OnOk result ((cs : List Made)
+            → Goes (run_of self.old.book self.old.left) (run_of self.new.book self.new.left) cs cs) }
         ensures stepped { OnOk result (HasStepped (run_of self.new.book self.new.left)) }
-        ensures stops { IfErr result (λ fault. (cs : List Made) → Stops D.tells D.may_leave D.may_have_left D.moment D.faults fault
+        ensures stops { IfErr result (λ fault. (cs : List Made)
+            → Stops D.tells D.may_leave D.may_have_left D.moment D.faults fault
             (run_of self.old.book self.old.left) (run_of self.new.book self.new.left) cs) }
-        ensures goes_on { GoesOn D.tells D.may_leave D.may_have_left D.moment D.faults D.identity self.old.book self.new.book }
+        ensures goes_on { GoesOn D.tells D.may_leave D.may_have_left D.moment D.faults D.identity self.old.book
+            self.new.book }
     {
         while self.left > 0 {
             let Some(session) = self.book.host().ready_session() else {
@@ -73,12 +77,16 @@ impl<'e, E: Engine, D: Disk> Run<'e, E, D> {
         commands: Sequence<Command>,
     ) -> Result<(), CallFault>
         requires stepped { HasStepped (run_of self.old.book self.old.left) }
-        ensures goes { OnOk result ((cs : List Made) → Goes (run_of self.old.book self.old.left) (run_of self.new.book self.new.left) (of_client client commands ++ cs) cs) }
+        ensures goes { OnOk result ((cs : List Made)
+            → Goes (run_of self.old.book self.old.left) (run_of self.new.book self.new.left)
+            (of_client client commands ++ cs) cs) }
         ensures stepped { OnOk result (HasStepped (run_of self.new.book self.new.left)) }
         ensures stops { IfErr result (λ fault. (cs : List Made)
             → Stops D.tells D.may_leave D.may_have_left D.moment D.faults fault
-            (run_of self.old.book self.old.left) (run_of self.new.book self.new.left) (of_client client commands ++ cs)) }
-        ensures goes_on { GoesOn D.tells D.may_leave D.may_have_left D.moment D.faults D.identity self.old.book self.new.book }
+            (run_of self.old.book self.old.left) (run_of self.new.book self.new.left)
+            (of_client client commands ++ cs)) }
+        ensures goes_on { GoesOn D.tells D.may_leave D.may_have_left D.moment D.faults D.identity self.old.book
+            self.new.book }
     {
         let mut left = Remaining::new(commands);
         while let Some(command) = left.take_first() {
@@ -95,12 +103,15 @@ impl<'e, E: Engine, D: Disk> Run<'e, E, D> {
         clients: Sequence<Sequence<Command>>,
     ) -> Result<(), CallFault>
         requires stepped { HasStepped (run_of self.old.book self.old.left) }
-        ensures goes { OnOk result ((cs : List Made) → Goes (run_of self.old.book self.old.left) (run_of self.new.book self.new.left) (of_clients 1 clients ++ cs) cs) }
+        ensures goes { OnOk result ((cs : List Made)
+            → Goes (run_of self.old.book self.old.left) (run_of self.new.book self.new.left)
+            (of_clients 1 clients ++ cs) cs) }
         ensures stepped { OnOk result (HasStepped (run_of self.new.book self.new.left)) }
         ensures stops { IfErr result (λ fault. (cs : List Made)
             → Stops D.tells D.may_leave D.may_have_left D.moment D.faults fault
             (run_of self.old.book self.old.left) (run_of self.new.book self.new.left) (of_clients 1 clients ++ cs)) }
-        ensures goes_on { GoesOn D.tells D.may_leave D.may_have_left D.moment D.faults D.identity self.old.book self.new.book }
+        ensures goes_on { GoesOn D.tells D.may_leave D.may_have_left D.moment D.faults D.identity self.old.book
+            self.new.book }
     {
         let mut client = 0u32;
         for commands in clients.into_vec() {
@@ -112,11 +123,13 @@ impl<'e, E: Engine, D: Disk> Run<'e, E, D> {
 
     /// Makes the commands of a script: those of the set-up, and then those of one client after another.
     fn make_script(&mut self, alloc: Global, script: Script) -> Result<(), CallFault>
-        ensures goes { OnOk result (Goes (run_of self.old.book self.old.left) (run_of self.new.book self.new.left) (in_turn script) []) }
+        ensures goes { OnOk result (Goes (run_of self.old.book self.old.left) (run_of self.new.book self.new.left)
+            (in_turn script) []) }
         ensures stepped { OnOk result (HasStepped (run_of self.new.book self.new.left)) }
         ensures stops { IfErr result (λ fault. Stops D.tells D.may_leave D.may_have_left D.moment D.faults fault
             (run_of self.old.book self.old.left) (run_of self.new.book self.new.left) (in_turn script)) }
-        ensures goes_on { GoesOn D.tells D.may_leave D.may_have_left D.moment D.faults D.identity self.old.book self.new.book }
+        ensures goes_on { GoesOn D.tells D.may_leave D.may_have_left D.moment D.faults D.identity self.old.book
+            self.new.book }
     {
         self.step_all(alloc)?;
         self.make_all(alloc, 0, script.setup)?;
@@ -161,7 +174,8 @@ fn run_in_threads<'e, R: Threads + Wait + Sync, E: Engine, D: Disk, G: Gate>(
     requires no_step { HasNoStep script }
     requires opened { book.history ≡ [] }
     requires some { steps.workers ≢ 0 }
-    ensures { HasEnded D.tells D.may_leave D.may_have_left D.moment D.faults D.identity book.entry script steps.workers steps.budget
+    ensures { HasEnded D.tells D.may_leave D.may_have_left D.moment D.faults D.identity book.entry script steps.workers
+        steps.budget
         result.closed.host.image result.closed.opened result.closed.history.entries result.closed.disk result.fault }
 {
     let engine = book.engine();
@@ -192,7 +206,8 @@ pub(crate) fn run_script<'e, R: Threads + Wait + Sync, E: Engine, D: Disk, G: Ga
 ) -> Ended<E, D>
     requires no_step { HasNoStep script }
     requires opened { book.history ≡ [] }
-    ensures { HasEnded D.tells D.may_leave D.may_have_left D.moment D.faults D.identity book.entry script steps.workers steps.budget
+    ensures { HasEnded D.tells D.may_leave D.may_have_left D.moment D.faults D.identity book.entry script steps.workers
+        steps.budget
         result.closed.host.image result.closed.opened result.closed.history.entries result.closed.disk result.fault }
 {
     if steps.workers == 0 {

@@ -25,7 +25,8 @@ pub(crate) struct TurnResult {
 /// Exits what is active, for a session that ends.
 pub(crate) fn exit_active(alloc: Global, x: &mut RunState, t: &Tables) -> Result<Data, NoMemory>
     requires { IsOver t.now x.old }
-    ensures value { IfOk result (λ found. (gone : exit_all t.now (state_of x.old).running ≡ (found, (state_of x.new).running))
+    ensures value { IfOk result (λ found. (gone : exit_all t.now (state_of x.old).running
+        ≡ (found, (state_of x.new).running))
         × (state_of x.new ≡ with_running (exit_all t.now (state_of x.old).running).1 (state_of x.old))) }
     ensures over { OnOk result (IsOver t.now x.new) }
 {
