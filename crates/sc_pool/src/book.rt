@@ -28,8 +28,9 @@ pub(crate) fn answer<E: Engine, D: Disk>(
     who: Who,
     command: Command,
 ) -> Result<(), CallFault>
-    ensures ok { OnOk result (Adds who command (seen_of D.tells D.may_leave D.may_have_left D.moment D.faults
-        D.identity book.old) (seen_of D.tells D.may_leave D.may_have_left D.moment D.faults D.identity book.new)) }
+    ensures ok { OnOk result (Adds who command
+        (seen_of D.tells D.may_leave D.may_have_left D.moment D.faults D.identity book.old)
+        (seen_of D.tells D.may_leave D.may_have_left D.moment D.faults D.identity book.new)) }
     ensures err { IfErr result (λ fault. Fails who command fault
         (seen_of D.tells D.may_leave D.may_have_left D.moment D.faults D.identity book.old)
         (seen_of D.tells D.may_leave D.may_have_left D.moment D.faults D.identity book.new)) }
@@ -50,8 +51,8 @@ pub(crate) fn step_first<E: Engine, D: Disk>(
         (seen_of D.tells D.may_leave D.may_have_left D.moment D.faults D.identity book.new))
         (λ fault. FailsToStep fault (seen_of D.tells D.may_leave D.may_have_left D.moment D.faults D.identity book.old)
         (seen_of D.tells D.may_leave D.may_have_left D.moment D.faults D.identity book.new)) }
-    ensures none { result ≡ Ok false → (seen_of D.tells D.may_leave D.may_have_left D.moment D.faults D.identity
-        book.new).ready ≡ false }
+    ensures none { result ≡ Ok false
+        → (seen_of D.tells D.may_leave D.may_have_left D.moment D.faults D.identity book.new).ready ≡ false }
     ensures goes_on { GoesOn (seen_of D.tells D.may_leave D.may_have_left D.moment D.faults D.identity book.old)
         (seen_of D.tells D.may_leave D.may_have_left D.moment D.faults D.identity book.new) }
 {

@@ -184,11 +184,11 @@ fn run_planned<'e, E: Engine, D: Disk, J: Plan + Send + Sync, R: Threads + Wait 
     requires few { length scripts < 2 ^ 32 - 1 }
     requires no_step { HaveNoStep scripts }
     requires scripts { scripts ≡ J.plan.scripts }
-    requires start { StartsAt J.plan.start (seen_of D.tells D.may_leave D.may_have_left D.moment D.faults D.identity
-        book) }
+    requires start { StartsAt J.plan.start
+        (seen_of D.tells D.may_leave D.may_have_left D.moment D.faults D.identity book) }
     requires budget { budget ≡ J.plan.budget }
-    requires within { accepted_steps (seen_of D.tells D.may_leave D.may_have_left D.moment D.faults D.identity
-        book).entries ≤ budget }
+    requires within { accepted_steps
+        (seen_of D.tells D.may_leave D.may_have_left D.moment D.faults D.identity book).entries ≤ budget }
     ensures { Finished J.plan (seen_of D.tells D.may_leave D.may_have_left D.moment D.faults D.identity result.0)
         result.1 }
 {
@@ -218,10 +218,11 @@ fn run<'e, E: Engine, D: Disk, R: Threads + Wait + Sync, G: Gate>(
 ) -> (Book<'e, E, D>, Option<CallFault>)
     requires few { length scripts < 2 ^ 32 - 1 }
     requires no_step { HaveNoStep scripts }
-    requires within { accepted_steps (seen_of D.tells D.may_leave D.may_have_left D.moment D.faults D.identity
-        book).entries ≤ budget }
-    ensures { Finished (planned scripts budget (seen_of D.tells D.may_leave D.may_have_left D.moment D.faults
-        D.identity book.entry)) (seen_of D.tells D.may_leave D.may_have_left D.moment D.faults D.identity result.0)
+    requires within { accepted_steps
+        (seen_of D.tells D.may_leave D.may_have_left D.moment D.faults D.identity book).entries ≤ budget }
+    ensures { Finished (planned scripts budget
+        (seen_of D.tells D.may_leave D.may_have_left D.moment D.faults D.identity book.entry))
+        (seen_of D.tells D.may_leave D.may_have_left D.moment D.faults D.identity result.0)
         result.1 }
 {
     run_planned::<E, D, Brand, R, G>(rt, alloc, book, engine, scripts, workers, budget, gate)
@@ -244,8 +245,8 @@ pub fn run_jobs<'e, E: Engine, D: Disk, R: Threads + Wait + Sync, G: Gate>(
     gate: &G,
 ) -> (Book<'e, E, D>, Option<CallFault>)
     requires no_step { HasNoStep script }
-    requires within { accepted_steps (seen_of D.tells D.may_leave D.may_have_left D.moment D.faults D.identity
-        book).entries ≤ budget }
+    requires within { accepted_steps
+        (seen_of D.tells D.may_leave D.may_have_left D.moment D.faults D.identity book).entries ≤ budget }
     ensures { Ran script budget (seen_of D.tells D.may_leave D.may_have_left D.moment D.faults D.identity book.entry)
         (seen_of D.tells D.may_leave D.may_have_left D.moment D.faults D.identity result.0) result.1 }
 {

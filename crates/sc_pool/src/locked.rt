@@ -93,12 +93,12 @@ impl<'e, E: Engine, D: Disk, J: Plan> Locked<'e, E, D, J> {
         budget: u64,
     ) -> Locked<'e, E, D, J>
         requires no_step { HaveNoStep J.plan.scripts }
-        requires start { StartsAt J.plan.start (seen_of D.tells D.may_leave D.may_have_left D.moment D.faults
-            D.identity book) }
+        requires start { StartsAt J.plan.start
+            (seen_of D.tells D.may_leave D.may_have_left D.moment D.faults D.identity book) }
         requires clients { Begins J.plan clients }
         requires budget { budget ≡ J.plan.budget }
-        requires within { accepted_steps (seen_of D.tells D.may_leave D.may_have_left D.moment D.faults D.identity
-            book).entries ≤ budget }
+        requires within { accepted_steps
+            (seen_of D.tells D.may_leave D.may_have_left D.moment D.faults D.identity book).entries ≤ budget }
     {
         Locked {
             book,
@@ -221,8 +221,9 @@ impl<'e, E: Engine, D: Disk, J: Plan> Locked<'e, E, D, J> {
 
     /// The book, and the worst fault that was met.
     pub(crate) fn into_parts(self) -> (Book<'e, E, D>, Option<CallFault>)
-        ensures keeps { Keeps J.plan (seen_of D.tells D.may_leave D.may_have_left D.moment D.faults D.identity
-            result.0) self.entry.clients self.entry.worst }
+        ensures keeps { Keeps J.plan
+            (seen_of D.tells D.may_leave D.may_have_left D.moment D.faults D.identity result.0)
+            self.entry.clients self.entry.worst }
         ensures worst { result.1 ≡ self.entry.worst }
         ensures entries { (seen_of D.tells D.may_leave D.may_have_left D.moment D.faults D.identity result.0).entries
             ≡ self.entry.entries }

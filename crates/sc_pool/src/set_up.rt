@@ -18,8 +18,9 @@ pub(crate) fn set_up<E: Engine, D: Disk>(
     ensures { MatchResult result (λ _. MakesPart commands []
         (seen_of D.tells D.may_leave D.may_have_left D.moment D.faults D.identity book.old)
         (seen_of D.tells D.may_leave D.may_have_left D.moment D.faults D.identity book.new))
-        (λ fault. FailsIn commands fault (seen_of D.tells D.may_leave D.may_have_left D.moment D.faults D.identity
-        book.old) (seen_of D.tells D.may_leave D.may_have_left D.moment D.faults D.identity book.new)) }
+        (λ fault. FailsIn commands fault
+        (seen_of D.tells D.may_leave D.may_have_left D.moment D.faults D.identity book.old)
+        (seen_of D.tells D.may_leave D.may_have_left D.moment D.faults D.identity book.new)) }
 {
     let mut left = Remaining::new(commands);
     while let Some(command) = left.take_first() {

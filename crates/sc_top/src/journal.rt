@@ -69,8 +69,7 @@ pub(crate) fn run<R: Threads + Wait + Sync, D: Disk, G: Gate>(
     ensures ok { IfOk result (λ s. Runs (disk_known D.tells D.reads D.may_leave D.faults disk.old disk.new)
         (account form) script steps.workers steps.budget (status_of s) (text_of s)) }
     ensures err { OnErr result (LeftBy (disk_known D.tells D.reads D.may_leave D.faults disk.old disk.new) script
-        steps.workers
-        steps.budget) }
+        steps.workers steps.budget) }
 {
     match Book::open(alloc, &Compiled, disk) {
         Ok(book) => {
@@ -116,8 +115,7 @@ fn tell<D: Disk>(
     ended: &mut Ended<Compiled, D>,
 ) -> Result<Saying, NoMemory>
     ensures told { IfOk result (λ s. IsTold (account form) ended.old.fault ended.old.closed.opened
-        ended.old.closed.host.image
-        ended.old.closed.history.entries (status_of s) (text_of s)) }
+        ended.old.closed.host.image ended.old.closed.history.entries (status_of s) (text_of s)) }
     ensures disk { ended.new.closed.disk ≡ ended.old.closed.disk }
 {
     let is_ready = ended.closed.host.ready_session().is_some();

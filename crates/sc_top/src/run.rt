@@ -174,9 +174,9 @@ fn run_in_threads<'e, R: Threads + Wait + Sync, E: Engine, D: Disk, G: Gate>(
     requires no_step { HasNoStep script }
     requires opened { book.history ≡ [] }
     requires some { steps.workers ≢ 0 }
-    ensures { HasEnded D.tells D.may_leave D.may_have_left D.moment D.faults D.identity book.entry script steps.workers
-        steps.budget
-        result.closed.host.image result.closed.opened result.closed.history.entries result.closed.disk result.fault }
+    ensures { HasEnded D.tells D.may_leave D.may_have_left D.moment D.faults D.identity book.entry script
+        steps.workers steps.budget result.closed.host.image result.closed.opened result.closed.history.entries
+        result.closed.disk result.fault }
 {
     let engine = book.engine();
     let (book, fault) = run_jobs(
@@ -206,9 +206,9 @@ pub(crate) fn run_script<'e, R: Threads + Wait + Sync, E: Engine, D: Disk, G: Ga
 ) -> Ended<E, D>
     requires no_step { HasNoStep script }
     requires opened { book.history ≡ [] }
-    ensures { HasEnded D.tells D.may_leave D.may_have_left D.moment D.faults D.identity book.entry script steps.workers
-        steps.budget
-        result.closed.host.image result.closed.opened result.closed.history.entries result.closed.disk result.fault }
+    ensures { HasEnded D.tells D.may_leave D.may_have_left D.moment D.faults D.identity book.entry script
+        steps.workers steps.budget result.closed.host.image result.closed.opened result.closed.history.entries
+        result.closed.disk result.fault }
 {
     if steps.workers == 0 {
         run_alone(alloc, book, script, steps.budget)
