@@ -8,7 +8,7 @@ use Rattle.sc_types.specs.declared.expr.EventField.TheVariants as field
 use Rattle.sc_types.specs.declared.expr.Expr.{Expr}
 use Rattle.sc_types.specs.declared.expr.Expr.TheVariants.{Bool as Truth, Int, Text, List as Listed, Datum, Field, Active, Not, Neg, Two, Item, Len, AsText}
 use Rattle.sc_types.specs.declared.expr.Op.{Op}
-use Rattle.sc_types.specs.declared.expr.Op.TheVariants.{Or, Sub}
+use Rattle.sc_types.specs.declared.expr.Op.TheVariants.{Sub}
 use Rattle.sc_types.specs.declared.token.Mark.TheVariants.{Not as Bang, Open, Close, OpenSquare, CloseSquare, Comma, Dot}
 use Rattle.sc_types.specs.declared.token.Token.{Token}
 use Rattle.sc_types.specs.declared.token.Token.TheVariants.{Word, Number, Text as Quoted, Operator, Mark as Sign}

@@ -1,12 +1,11 @@
 -- Each level of the descent, one step at a time, as the reader takes it.
-use Rattle.std.proofs.Common.{◌≡◌, ℕ, zero, suc, ◌+◌, ◌-◌, ◌<◌, ◌≤◌, ◌==◌, if◌then◌else◌, Bool, true, false, nat_lt, max, Option, Some, None, List, [], ◌∷◌, ◌++◌, append_assoc, map, drop, length, option_map, option_and_then, refl, sym, ap, ◌∙◌, arith}
-use Rattle.std.proofs.lemmas.Bool.{cond-true, cond-false, lt-ltb}
+use Rattle.std.proofs.Common.{◌≡◌, ℕ, zero, suc, ◌+◌, ◌-◌, ◌<◌, ◌≤◌, if◌then◌else◌, Bool, true, false, nat_lt, max, Option, Some, None, List, [], ◌∷◌, ◌++◌, append_assoc, map, drop, length, option_map, option_and_then, refl, sym, ap, ◌∙◌, arith}
+use Rattle.std.proofs.lemmas.Bool.{cond-true, lt-ltb}
 use Rattle.std.proofs.lemmas.List.{length-append}
-use Rattle.std.proofs.lemmas.Option.{none-some, same_Some, cond_some}
+use Rattle.std.proofs.lemmas.Option.{none-some, same_Some}
 use Rattle.sc_types.specs.Expressions.{depth, deepest}
 use Rattle.sc_types.specs.declared.expr.Expr.{Expr}
 use Rattle.sc_types.specs.declared.expr.Expr.TheVariants.{List as Listed, Item}
-use Rattle.sc_types.specs.declared.expr.Op.{Op}
 use Rattle.sc_types.specs.declared.expr.Op.TheVariants.{Sub}
 use Rattle.sc_types.specs.declared.token.Mark.{Mark}
 use Rattle.sc_types.specs.declared.token.Mark.TheVariants.{Not as Bang, OpenSquare, CloseSquare, Comma}

@@ -1,4 +1,4 @@
-use Rattle.std.proofs.Common.{rules, ◌≡◌, ◌-◌, nat_lt, None, [], ◌∷◌, ◌++◌, map, max, sym, ap, ◌∙◌}
+use Rattle.std.proofs.Common.{rules, ◌≡◌, nat_lt, None, [], ◌∷◌, ◌++◌, map, max, sym, ap, ◌∙◌}
 use Rattle.std.proofs.lemmas.Result.{IfOk-weaker}
 use Rattle.sc_types.specs.Expressions.{depth, deepest}
 use Rattle.sc_expr.specs.Descent.{inside}
