@@ -184,17 +184,10 @@ impl<'a> Reader<'a> {
                 operand = self.prefixed(alloc, room)?;
                 closest = CLOSEST;
                 loosest = looseness(op) - 1;
-            } else if let Some(
-                Waiting {
-                    left,
-                    op,
-                    loosest: outer,
-                },
-            ) = waiting.pop()
-            {
-                operand = Sub::two(alloc, op, left, operand)?;
-                closest = closest_behind(op);
-                loosest = outer;
+            } else if let Some(last) = waiting.pop() {
+                operand = Sub::two(alloc, last.op, last.left, operand)?;
+                closest = closest_behind(last.op);
+                loosest = last.loosest;
             } else {
                 return Ok(operand);
             }
@@ -264,7 +257,8 @@ impl<'a> Reader<'a> {
         }
     }
 
-    /// What a word begins.
+    /// What a word begins. Not inlined, so that brackets without a word before them take less of the stack.
+    #[inline(never)]
     #[cycle(descend)]
     #[tactic(auto, using(crate::proofs::Rules::depths))]
     fn named(&mut self, alloc: Global, room: u32, word: Bytes) -> Result<Sub, ExprFault>

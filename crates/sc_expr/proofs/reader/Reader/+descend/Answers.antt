@@ -31,7 +31,7 @@ loose-returns-in_err-operand-3 t c = record {
   value = search rules;
   refused = λ e. climbs_result c.args.room c.loop-op.closest c.loop-op.loosest c.args.self.now c.prefixed.new.self c.loop-op.self c.in_ok-operand.operand c.loop-op.operand
       c.loop-op.waiting None c.in_ok-operand.ensures.value c.loop-op.invariant.0
-      (climbs_too_deep c.args.room c.loop-op.closest c.loop-op.loosest c.pop.new.self c.loop-op.waiting c.in-Some-pop.field-0 c.loop-op.operand c.loop-op.self
+      (climbs_too_deep c.args.room c.loop-op.closest c.loop-op.loosest c.pop.new.self c.loop-op.waiting c.in-Some-pop.last c.loop-op.operand c.loop-op.self
       c.loop-op.invariant.2 (search rules) (search rules) (search rules));
   shorter = search rules;
   shallow = search rules;
@@ -39,7 +39,7 @@ loose-returns-in_err-operand-3 t c = record {
 
 pub loose-loop-op-preserved : goal.loose-loop-op-preserved
 loose-loop-op-preserved t c = (
-  climbs_pop c.args.room c.loop-op.closest c.loop-op.loosest c.pop.new.self c.loop-op.waiting c.in-Some-pop.field-0 c.loop-op.operand c.in_ok-operand-3.operand
+  climbs_pop c.args.room c.loop-op.closest c.loop-op.loosest c.pop.new.self c.loop-op.waiting c.in-Some-pop.last c.loop-op.operand c.in_ok-operand-3.operand
       c.closest_behind-closest.result c.loop-op.self _ c.loop-op.invariant.2 (search rules) (search rules) (search rules) (search rules) c.loop-op.invariant.0,
   search rules,
   search rules,
