@@ -8,13 +8,13 @@ use Rattle.sc_types.specs.declared.expr.EventField.TheVariants as field
 use Rattle.sc_types.specs.declared.expr.Expr.{Expr}
 use Rattle.sc_types.specs.declared.expr.Expr.TheVariants.{Bool as Truth, Int, Text, List as Listed, Datum, Field, Active, Not, Neg, Two, Item, Len, AsText}
 use Rattle.sc_types.specs.declared.expr.Op.{Op}
-use Rattle.sc_types.specs.declared.expr.Op.TheVariants.{Or, Sub}
+use Rattle.sc_types.specs.declared.expr.Op.TheVariants.{Sub}
 use Rattle.sc_types.specs.declared.token.Mark.TheVariants.{Not as Bang, Open, Close, OpenSquare, CloseSquare, Comma, Dot}
 use Rattle.sc_types.specs.declared.token.Token.{Token}
 use Rattle.sc_types.specs.declared.token.Token.TheVariants.{Word, Number, Text as Quoted, Operator, Mark as Sign}
 use Rattle.sc_expr.specs.Descent.{identified, Parse, within, with_rest, made, closed, chained_from, prefixed, indexed_from, payload, event_field, named, items, front, list_of, primary, postfix, loose, inside, loose_at}
 use Rattle.sc_expr.proofs.DepthLemmas.{depth-Two, depth-Item, depth-Not, depth-Neg, depth-Len, depth-AsText, depth-List, passes}
-use Rattle.sc_expr.proofs.LoopLemmas.{chained_from_op, chained_from_other, indexed_from_square, indexed_from_other}
+use Rattle.sc_expr.proofs.LoopLemmas.{two-le-looseness, chained_from_op, chained_from_other, indexed_from_square, indexed_from_other}
 
 -- whether the first token belongs to what stands before it, where that is bound less loosely than this
 abbrev pub belongs : ℕ → List Token → Bool
@@ -22,10 +22,6 @@ belongs bound (Sign Dot ∷ ts) = true
 belongs bound (Sign OpenSquare ∷ ts) = nat_lt 0 bound
 belongs bound (Operator op ∷ ts) = nat_lt (looseness op) bound
 belongs bound ts = false
-
-two-le-looseness : (op : Op) → 2 ≤ looseness op
-two-le-looseness Or = omega arith
-two-le-looseness op = omega arith
 
 belongs_less : (bound : ℕ) (ts : List Token) → belongs (suc bound) ts ≡ false → belongs bound ts ≡ false
 belongs_less bound [] h = refl

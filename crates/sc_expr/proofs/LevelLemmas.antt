@@ -1,12 +1,11 @@
 -- Each level of the descent, one step at a time, as the reader takes it.
-use Rattle.std.proofs.Common.{◌≡◌, ℕ, zero, suc, ◌+◌, ◌-◌, ◌<◌, ◌≤◌, ◌==◌, if◌then◌else◌, Bool, true, false, nat_lt, max, Option, Some, None, List, [], ◌∷◌, ◌++◌, append_assoc, map, drop, length, option_map, option_and_then, refl, sym, ap, ◌∙◌, arith}
-use Rattle.std.proofs.lemmas.Bool.{cond-true, cond-false, lt-ltb}
+use Rattle.std.proofs.Common.{◌≡◌, ℕ, zero, suc, ◌+◌, ◌-◌, ◌<◌, ◌≤◌, if◌then◌else◌, Bool, true, false, nat_lt, max, Option, Some, None, List, [], ◌∷◌, ◌++◌, append_assoc, map, drop, length, option_map, option_and_then, refl, sym, ap, ◌∙◌, arith}
+use Rattle.std.proofs.lemmas.Bool.{cond-true, lt-ltb}
 use Rattle.std.proofs.lemmas.List.{length-append}
-use Rattle.std.proofs.lemmas.Option.{none-some, same_Some, cond_some}
-use Rattle.sc_types.specs.Expressions.{depth, deepest, looseness, repeats}
+use Rattle.std.proofs.lemmas.Option.{none-some, same_Some}
+use Rattle.sc_types.specs.Expressions.{depth, deepest}
 use Rattle.sc_types.specs.declared.expr.Expr.{Expr}
-use Rattle.sc_types.specs.declared.expr.Expr.TheVariants.{List as Listed, Two, Item}
-use Rattle.sc_types.specs.declared.expr.Op.{Op}
+use Rattle.sc_types.specs.declared.expr.Expr.TheVariants.{List as Listed, Item}
 use Rattle.sc_types.specs.declared.expr.Op.TheVariants.{Sub}
 use Rattle.sc_types.specs.declared.token.Mark.{Mark}
 use Rattle.sc_types.specs.declared.token.Mark.TheVariants.{Not as Bang, OpenSquare, CloseSquare, Comma}
@@ -14,15 +13,10 @@ use Rattle.sc_types.specs.declared.token.Token.{Token}
 use Rattle.sc_types.specs.declared.token.Token.TheVariants.{Operator, Mark as Sign}
 use Rattle.sc_expr.specs.declared.sub.Prefix.{Prefix}
 use Rattle.sc_expr.specs.declared.sub.Prefix.TheVariants as prefix
-use Rattle.sc_expr.specs.Descent.{Parse, within, made, chained_from, indexed_from, prefixed, operator_at, prefix_at, prefix_of, all_prefixed, is_at, with_rest, after_close_square, loose, loose_at, inside, primary, postfix, items, front, item_end, is_unended, list_of}
-use Rattle.sc_expr.proofs.LoopLemmas.{chained_from_op, chained_from_other, at_square, indexed_from_square, indexed_from_other}
+use Rattle.sc_expr.specs.Descent.{Parse, within, made, chained_from, indexed_from, prefixed, prefix_at, prefix_of, all_prefixed, is_at, with_rest, after_close_square, loose, loose_at, inside, primary, postfix, items, front, item_end, is_unended, list_of}
+use Rattle.sc_expr.proofs.LoopLemmas.{at_square, indexed_from_square, indexed_from_other}
 
 -- levels
-
--- at looseness 0 there are neither operators nor prefixes
-pub loose_none : (room bound : ℕ) (ts : List Token) → bound ≡ 0 → loose_at room bound ts ≡ postfix (nat_lt 0 room) (inside room) ts
-unfolding loose
-loose_none room bound ts e = ap (λ b. loose_at room b ts) e
 
 -- at looseness 1 there are prefixes, and no operators
 pub loose_prefixed : (room bound : ℕ) (ts : List Token) → bound ≡ 1
@@ -59,89 +53,16 @@ unfolding inside loose prefixed
 inside_nothing zero = refl
 inside_nothing (suc room) = refl
 
-true_is_false : true ≡ false → ⊥
+pub true_is_false : true ≡ false → ⊥
 true_is_false e = cc
 
 max-swap : (a b c : ℕ) → max a (max b c) ≡ max b (max a c)
 max-swap a b c = omega arith
 
--- operators
-
 -- a test that gives nothing has failed
-not_some : {A : Type 0} (b : Bool) (x : A) → (if b then Some x else None) ≡ None → b ≡ false
+pub not_some : {A : Type 0} (b : Bool) (x : A) → (if b then Some x else None) ≡ None → b ≡ false
 not_some true x e = absurd (none-some x (sym e))
 not_some false x e = refl
-
--- what the loop finds is what the level gives
-pub loose_result : (room bound : ℕ) (ts rest now : List Token) (first left : Expr) (o : Option (Expr × List Token)) → 2 ≤ bound
-    → loose_at room (bound - 1) ts ≡ Some (first, rest)
-    → chained_from (loose_at room (bound - 1)) bound left now ≡ chained_from (loose_at room (bound - 1)) bound first rest
-    → chained_from (loose_at room (bound - 1)) bound left now ≡ o → loose_at room bound ts ≡ o
-loose_result room bound ts rest now first left o two begun kept found =
-    loose_more room bound ts two ∙ ap (option_and_then _) begun ∙ sym kept ∙ found
-
--- where no operator of this looseness comes, the expression ends
-pub chain_stops : (operand : Parse Expr) (bound : ℕ) (a : Expr) (ts : List Token) → depth a ≤ 256 → operator_at bound ts ≡ None
-    → chained_from operand bound a ts ≡ Some (a, ts)
-chain_stops operand bound a (Operator op ∷ ts) shallow none =
-    chained_from_op operand bound a op ts shallow
-    ∙ cond-false (looseness op == bound) _ _ (not_some (looseness op == bound) op none)
-chain_stops operand bound a [] shallow none = chained_from_other operand bound a [] shallow refl
-chain_stops operand bound a (t ∷ ts) shallow none = chained_from_other operand bound a (t ∷ ts) shallow refl
-
--- behind an operator
-abbrev pub behind_operator : Parse Expr → ℕ → Expr → Op → Parse Expr
-behind_operator operand bound a op us =
-    option_and_then (λ (r : Expr × List Token). option_and_then (λ e. if repeats op then chained_from operand bound e r.1 else Some (e, r.1)) (within (Two op a r.0))) (operand us)
-
-chain_goes : (operand : Parse Expr) (bound : ℕ) (a : Expr) (op : Op) (ts : List Token) → depth a ≤ 256
-    → operator_at bound ts ≡ Some op → chained_from operand bound a ts ≡ behind_operator operand bound a op (drop 1 ts)
-chain_goes operand bound a op (Operator op' ∷ us) shallow some =
-    let here = cond_some (looseness op' == bound) op' op some in
-    chained_from_op operand bound a op' us shallow
-    ∙ cond-true (looseness op' == bound) _ _ here.0
-    ∙ ap (λ o. behind_operator operand bound a o us) here.1
-chain_goes operand bound a op [] shallow some = absurd (none-some op some)
-chain_goes operand bound a op (t ∷ us) shallow some = absurd (none-some op some)
-
--- behind an operator whose operand is not read, nothing is read
-pub chain_refused : (operand : Parse Expr) (bound : ℕ) (a : Expr) (op : Op) (ts : List Token) → depth a ≤ 256
-    → operator_at bound ts ≡ Some op → operand (drop 1 ts) ≡ None → chained_from operand bound a ts ≡ None
-chain_refused operand bound a op ts shallow some none =
-    chain_goes operand bound a op ts shallow some ∙ ap (option_and_then _) none
-
--- with the operand that was read
-chain_made : (operand : Parse Expr) (bound : ℕ) (a b : Expr) (op : Op) (ts rest : List Token) → depth a ≤ 256
-    → operator_at bound ts ≡ Some op → operand (drop 1 ts) ≡ Some (b, rest)
-    → chained_from operand bound a ts ≡ option_and_then (λ e. if repeats op then chained_from operand bound e rest else Some (e, rest)) (within (Two op a b))
-chain_made operand bound a b op ts rest shallow some read =
-    chain_goes operand bound a op ts shallow some ∙ ap (option_and_then _) read
-
--- an operator that makes the expression too deep is refused
-pub chain_too_deep : (operand : Parse Expr) (bound : ℕ) (a b : Expr) (op : Op) (ts rest : List Token) → depth a ≤ 256
-    → operator_at bound ts ≡ Some op → operand (drop 1 ts) ≡ Some (b, rest) → within (Two op a b) ≡ None
-    → chained_from operand bound a ts ≡ None
-chain_too_deep operand bound a b op ts rest shallow some read deep =
-    chain_made operand bound a b op ts rest shallow some read ∙ ap (option_and_then _) deep
-
--- behind an operator that repeats, the chain goes on
-pub chain_step : (operand : Parse Expr) (bound : ℕ) (a b e : Expr) (op : Op) (ts rest : List Token) → depth a ≤ 256
-    → operator_at bound ts ≡ Some op → operand (drop 1 ts) ≡ Some (b, rest) → within (Two op a b) ≡ Some e → repeats op ≡ true
-    → chained_from operand bound a ts ≡ chained_from operand bound e rest
-chain_step operand bound a b e op ts rest shallow some read fits more =
-    chain_made operand bound a b op ts rest shallow some read ∙ ap (option_and_then _) fits ∙ cond-true (repeats op) _ _ more
-
--- behind an operator that does not repeat, the chain ends
-pub chain_last : (operand : Parse Expr) (bound : ℕ) (a b e : Expr) (op : Op) (ts rest : List Token) → depth a ≤ 256
-    → operator_at bound ts ≡ Some op → operand (drop 1 ts) ≡ Some (b, rest) → within (Two op a b) ≡ Some e → repeats op ≡ false
-    → chained_from operand bound a ts ≡ Some (e, rest)
-chain_last operand bound a b e op ts rest shallow some read fits last =
-    chain_made operand bound a b op ts rest shallow some read ∙ ap (option_and_then _) fits ∙ cond-false (repeats op) _ _ last
-
--- an operator that comes next takes a token
-pub operator_there : (bound : ℕ) (op : Op) (ts : List Token) → operator_at bound ts ≡ Some op → length (drop 1 ts) < length ts
-operator_there bound op [] some = absurd (none-some op some)
-operator_there bound op (t ∷ ts) some = omega arith
 
 -- prefixes
 

@@ -1,3 +1,4 @@
+pub mod ClimbLemmas
 pub mod DelayLemmas
 pub mod DepthLemmas
 pub mod Grammar

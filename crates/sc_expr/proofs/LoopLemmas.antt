@@ -5,11 +5,17 @@ use Rattle.sc_types.specs.Expressions.{depth, looseness, repeats}
 use Rattle.sc_types.specs.declared.expr.Expr.{Expr}
 use Rattle.sc_types.specs.declared.expr.Expr.TheVariants.{Two, Item}
 use Rattle.sc_types.specs.declared.expr.Op.{Op}
+use Rattle.sc_types.specs.declared.expr.Op.TheVariants.{Or}
 use Rattle.sc_types.specs.declared.token.Mark.TheVariants.{OpenSquare}
 use Rattle.sc_types.specs.declared.token.Token.{Token}
 use Rattle.sc_types.specs.declared.token.Token.TheVariants.{Operator, Mark as Sign}
 use Rattle.sc_expr.specs.Descent.{Parse, within, chained, chained_from, indexed, indexed_from, after_close_square}
 use Rattle.sc_expr.proofs.DepthLemmas.{depth-Two, depth-Item, alike}
+
+-- an operator is looser than a prefix
+pub two-le-looseness : (op : Op) → 2 ≤ looseness op
+two-le-looseness Or = omega arith
+two-le-looseness op = omega arith
 
 -- what `chained` does at an operator, where it goes on by `again`
 abbrev pub at_operator : Parse Expr → ℕ → (Expr → Parse Expr) → Expr → Op → Parse Expr

@@ -1,10 +1,11 @@
 -- The lemmas that the functions name.
+use Rattle.sc_expr.proofs.ClimbLemmas.{loose_refused, between_there}
 use Rattle.sc_expr.proofs.DepthLemmas.{depth-Bool, depth-Int, depth-Text, depth-Datum, depth-Field, depth-Active, depth-Not, depth-Neg, depth-Two, depth-Item, depth-Len, depth-AsText, depth-List}
-use Rattle.sc_expr.proofs.LevelLemmas.{loose_none, loose_prefixed, loose_more, inside_none, inside_more, chain_stops, chain_refused, chain_too_deep, chain_step, chain_last, operator_there, prefix_stops, all_prefixed-none, prefix_step, prefix_there, prefix_made, prefix_too_deep, index_stops, index_refused, index_unclosed, index_too_deep, index_step, mark_there, in_front-none, deepest-push, list_refused, list_unended, list_made, list_too_deep, list_step}
+use Rattle.sc_expr.proofs.LevelLemmas.{inside_none, inside_more, prefix_stops, all_prefixed-none, prefix_step, prefix_there, prefix_made, prefix_too_deep, index_stops, index_refused, index_unclosed, index_too_deep, index_step, mark_there, in_front-none, deepest-push, list_refused, list_unended, list_made, list_too_deep, list_step}
 
 pub ruleset depths = (depth-Bool, depth-Int, depth-Text, depth-Datum, depth-Field, depth-Active, depth-Not, depth-Neg, depth-Two, depth-Item, depth-Len, depth-AsText, depth-List)
 
-pub ruleset operators = (loose_none, loose_prefixed, loose_more, chain_stops, chain_refused, chain_too_deep, chain_step, chain_last, operator_there)
+pub ruleset operators = (loose_refused, between_there)
 
 pub ruleset prefixes = (prefix_stops, all_prefixed-none, prefix_step, prefix_there, prefix_made, prefix_too_deep)
 

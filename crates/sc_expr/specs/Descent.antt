@@ -1,6 +1,6 @@
 -- How the reader descends: each level of the grammar as a function from the tokens that are ahead. Only contracts of
 -- private functions cite it; the public ones speak of the grammar.
-use Rattle.std.specs.Prelude.{ℕ, zero, suc, ◌-◌, ◌==◌, Bool, true, false, nat_le, nat_lt, if◌then◌else◌, Option, Some, None, option_map, option_and_then, List, [], ◌∷◌, length, find, codes}
+use Rattle.std.specs.Prelude.{ℕ, zero, suc, ◌+◌, ◌-◌, ◌==◌, ◌&&◌, Bool, true, false, nat_le, nat_lt, if◌then◌else◌, Option, Some, None, option_map, option_and_then, List, [], ◌∷◌, length, find, codes}
 use Rattle.std.specs.Str.{bytes_eq}
 use Rattle.sc_types.specs.Expressions.{depth, looseness, repeats, field_text}
 use Rattle.sc_base.specs.Text.{is_plain_name}
@@ -63,10 +63,15 @@ bracketed inner ts = option_and_then (λ us. option_and_then closed (inner us)) 
 
 -- operators
 
--- the operator that comes next, where it has this looseness
-abbrev pub operator_at : ℕ → List Token → Option Op
-operator_at bound (Operator op ∷ ts) = if looseness op == bound then Some op else None
-operator_at bound ts = None
+-- the operator that comes next, where its looseness lies between these, both included
+abbrev pub operator_between : ℕ → ℕ → List Token → Option Op
+operator_between closest loosest (Operator op ∷ ts) =
+    if nat_le closest (looseness op) && nat_le (looseness op) loosest then Some op else None
+operator_between closest loosest ts = None
+
+-- how close the operators may bind that come behind the operands of this one
+abbrev pub closest_behind : Op → ℕ
+closest_behind op = if repeats op then looseness op else looseness op + 1
 
 abbrev pub prefix_at : List Token → Option Prefix
 prefix_at (Sign Bang ∷ ts) = Some prefix.Not

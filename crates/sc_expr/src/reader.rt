@@ -8,7 +8,7 @@ ghost use Rattle.sc_types.specs.declared.token.Mark.TheVariants.{CloseSquare, Co
 ghost use Rattle.sc_types.specs.declared.token.Token.TheVariants.{Mark as Sign};
 ghost use Rattle.sc_expr.specs.Reading.{expr_of};
 ghost use Rattle.sc_expr.specs.Reads.{Passes, Reads, ReadsExpr};
-ghost use Rattle.sc_expr.specs.Descent.{after_open, after_close, after_close_square, operator_at, prefix_at, is_at, is_unended, after_dot, state_id, word, field_of, loose_at, prefixed, postfix, inside, primary, named, bracketed, list_of, active, event_field, payload};
+ghost use Rattle.sc_expr.specs.Descent.{after_open, after_close, after_close_square, operator_between, closest_behind, prefix_at, is_at, is_unended, after_dot, state_id, word, field_of, loose_at, prefixed, postfix, inside, primary, named, bracketed, list_of, active, event_field, payload};
 
 use crate::fault::ExprFault;
 use crate::lexer::Lexer;
@@ -20,6 +20,9 @@ use sc_types::{
 use std::alloc::Global;
 use std::marker::Model;
 use std::mem;
+
+/// The looseness of the operators that bind closest.
+const CLOSEST: u8 = 2;
 
 /// The looseness of an expression that no bracket closes in.
 const LOOSEST: u8 = 6;
@@ -36,11 +39,20 @@ pub fn read_expr(alloc: Global, text: &[u8]) -> Result<Expr, ExprFault>
     ensures reading { IsReading expr_of }
 {
     let mut reader = Reader::new(alloc, text)?;
-    let whole = reader.loose(alloc, EXPRESSION_LEVEL_LIMIT, LOOSEST)?;
+    let whole = reader.loose(alloc, EXPRESSION_LEVEL_LIMIT)?;
     if !reader.is_at_end() {
         return Err(ExprFault::NotExpr);
     }
     Ok(whole.into_expr())
+}
+
+/// An operand and the operator behind it, until the operand behind that is read; and how loose the operators are
+/// that may follow.
+#[derive(Drop)]
+struct Waiting {
+    left: Sub,
+    op: Op,
+    loosest: u8,
 }
 
 /// The tokens that are still to be read: the next one, and those behind it.
@@ -120,12 +132,13 @@ impl<'a> Reader<'a> {
         }
     }
 
-    /// The operator that comes next, where it has this looseness.
-    fn operator(&self, looseness_wanted: u8) -> Option<Op>
-        ensures { result ≡ operator_at looseness_wanted self.now }
+    /// The operator that comes next, where its looseness lies between these, both included.
+    fn operator(&self, closest: u8, loosest: u8) -> Option<Op>
+        ensures { result ≡ operator_between closest loosest self.now }
     {
         match &self.next {
-            Some(Token::Operator(op)) if looseness(*op) == looseness_wanted => Some(*op),
+            Some(Token::Operator(op)) if closest <= looseness(*op) && looseness(*op) <= loosest =>
+                Some(*op),
             _ => None,
         }
     }
@@ -149,29 +162,36 @@ impl<'a> Reader<'a> {
         }
     }
 
-    /// An expression whose operators outside brackets are at most this loose. 1 takes in prefixes, 0 none.
+    /// An expression, as far as it goes. Operands wait in a list for those behind their operators, so that brackets
+    /// alone make the descent deeper.
     #[cycle(descend)]
     #[tactic(auto, using(crate::proofs::Rules::operators))]
-    fn loose(&mut self, alloc: Global, room: u32, bound: u8) -> Result<Sub, ExprFault>
-        requires { bound ≤ 6 }
-        ensures { ReadsExpr (loose_at room bound) self.old result self.new }
+    fn loose(&mut self, alloc: Global, room: u32) -> Result<Sub, ExprFault>
+        ensures { ReadsExpr (loose_at room 6) self.old result self.new }
     {
-        if bound == 0 {
-            return self.postfix(alloc, room);
-        }
-        if bound == 1 {
-            return self.prefixed(alloc, room);
-        }
-        let mut left = self.loose(alloc, room, bound - 1)?;
-        while let Some(op) = self.operator(bound) {
-            self.skip(alloc)?;
-            let right = self.loose(alloc, room, bound - 1)?;
-            left = Sub::two(alloc, op, left, right)?;
-            if !repeats(op) {
-                break;
+        let mut waiting = Sequence::new(alloc);
+        let mut operand = self.prefixed(alloc, room)?;
+        let mut closest = CLOSEST;
+        let mut loosest = LOOSEST;
+        loop {
+            if let Some(op) = self.operator(closest, loosest) {
+                self.skip(alloc)?;
+                waiting.push(Waiting {
+                    left: operand,
+                    op,
+                    loosest,
+                })?;
+                operand = self.prefixed(alloc, room)?;
+                closest = CLOSEST;
+                loosest = looseness(op) - 1;
+            } else if let Some(last) = waiting.pop() {
+                operand = Sub::two(alloc, last.op, last.left, operand)?;
+                closest = closest_behind(last.op);
+                loosest = last.loosest;
+            } else {
+                return Ok(operand);
             }
         }
-        Ok(left)
     }
 
     #[cycle(descend)]
@@ -215,7 +235,7 @@ impl<'a> Reader<'a> {
         if room == 0 {
             return Err(ExprFault::NotExpr);
         }
-        self.loose(alloc, room - 1, LOOSEST)
+        self.loose(alloc, room - 1)
     }
 
     #[cycle(descend)]
@@ -225,8 +245,8 @@ impl<'a> Reader<'a> {
     {
         match self.advance(alloc)? {
             Some(Token::Word(word)) => self.named(alloc, room, word),
-            Some(Token::Number(number)) => Ok(Sub::leaf(Expr::Int(number))),
-            Some(Token::Text(text)) => Ok(Sub::leaf(Expr::Text(text))),
+            Some(Token::Number(number)) => Ok(Sub::leaf(alloc, Expr::Int(number))?),
+            Some(Token::Text(text)) => Ok(Sub::leaf(alloc, Expr::Text(text))?),
             Some(Token::Mark(Mark::Open)) => {
                 let whole = self.inside(alloc, room)?;
                 self.close(alloc)?;
@@ -237,7 +257,8 @@ impl<'a> Reader<'a> {
         }
     }
 
-    /// What a word begins.
+    /// What a word begins. Not inlined, so that brackets without a word before them take less of the stack.
+    #[inline(never)]
     #[cycle(descend)]
     #[tactic(auto, using(crate::proofs::Rules::depths))]
     fn named(&mut self, alloc: Global, room: u32, word: Bytes) -> Result<Sub, ExprFault>
@@ -245,9 +266,9 @@ impl<'a> Reader<'a> {
     {
         let name = word.slice();
         if is(name, b"true") {
-            Ok(Sub::leaf(Expr::Bool(true)))
+            Ok(Sub::leaf(alloc, Expr::Bool(true))?)
         } else if is(name, b"false") {
-            Ok(Sub::leaf(Expr::Bool(false)))
+            Ok(Sub::leaf(alloc, Expr::Bool(false))?)
         } else if is(name, b"In") {
             self.active(alloc, room)
         } else if is(name, b"len") {
@@ -257,7 +278,7 @@ impl<'a> Reader<'a> {
         } else if is(name, b"_event") {
             self.field(alloc)
         } else {
-            Ok(Sub::leaf(Expr::Datum(plain_name(alloc, &word)?)))
+            Ok(Sub::leaf(alloc, Expr::Datum(plain_name(alloc, &word)?))?)
         }
     }
 
@@ -283,7 +304,7 @@ impl<'a> Reader<'a> {
         let mut items = Sequence::new(alloc);
         if self.is_at(Mark::CloseSquare) {
             self.skip(alloc)?;
-            return Ok(Sub::leaf(Expr::List(items)));
+            return Ok(Sub::leaf(alloc, Expr::List(items))?);
         }
         let mut deepest = 0;
         loop {
@@ -291,7 +312,7 @@ impl<'a> Reader<'a> {
             deepest = item.depth().max(deepest);
             items.push(item.into_expr())?;
             if !self.goes_on(alloc)? {
-                return Sub::limited(Expr::List(items), deepest + 1);
+                return Sub::limited(alloc, Expr::List(items), deepest + 1);
             }
         }
     }
@@ -320,7 +341,7 @@ impl<'a> Reader<'a> {
         self.open(alloc)?;
         let id = self.state_id(alloc)?;
         self.close(alloc)?;
-        Ok(Sub::leaf(Expr::Active(id)))
+        Ok(Sub::leaf(alloc, Expr::Active(id))?)
     }
 
     fn state_id(&mut self, alloc: Global) -> Result<Bytes, ExprFault>
@@ -362,7 +383,7 @@ impl<'a> Reader<'a> {
             return self.payload(alloc);
         }
         match field_of(word.slice()) {
-            Some(field) => Ok(Sub::leaf(Expr::Field(field))),
+            Some(field) => Ok(Sub::leaf(alloc, Expr::Field(field))?),
             None => Err(ExprFault::NotExpr),
         }
     }
@@ -373,12 +394,12 @@ impl<'a> Reader<'a> {
         ensures { ReadsExpr payload self.old result self.new }
     {
         if !self.is_at(Mark::Dot) {
-            return Ok(Sub::leaf(Expr::Field(EventField::Payload)));
+            return Ok(Sub::leaf(alloc, Expr::Field(EventField::Payload))?);
         }
         self.skip(alloc)?;
         let word = self.word(alloc)?;
         let name = plain_name(alloc, &word)?;
-        Ok(Sub::leaf(Expr::Field(EventField::PayloadOf(name))))
+        Ok(Sub::leaf(alloc, Expr::Field(EventField::PayloadOf(name)))?)
     }
 }
 
@@ -411,7 +432,9 @@ fn field_of(word: &[u8]) -> Option<EventField>
 
 /// How loosely an operator binds: 2 binds closest.
 fn looseness(op: Op) -> u8
-    ensures { result ≡ looseness op }
+    ensures value { result ≡ looseness op }
+    ensures closest { 2 ≤ result }
+    ensures loosest { result ≤ 6 }
 {
     match op {
         Op::Or => 6,
@@ -426,6 +449,17 @@ fn repeats(op: Op) -> bool
     ensures { result ≡ repeats op }
 {
     looseness(op) != 4
+}
+
+/// How close the operators may bind that come behind the operands of this one.
+fn closest_behind(op: Op) -> u8
+    ensures { result ≡ closest_behind op }
+{
+    if repeats(op) {
+        looseness(op)
+    } else {
+        looseness(op) + 1
+    }
 }
 
 fn plain_name(alloc: Global, word: &Bytes) -> Result<PlainName, ExprFault>

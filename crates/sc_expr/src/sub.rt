@@ -6,7 +6,7 @@ ghost use Rattle.sc_expr.specs.Descent.{prefix_of};
 ghost use Rattle.sc_expr.specs.Reads.{Makes};
 
 use crate::fault::ExprFault;
-use sc_types::{Boxed, EXPRESSION_LEVEL_LIMIT, Expr, Op};
+use sc_types::{Boxed, EXPRESSION_LEVEL_LIMIT, Expr, NoMemory, Op};
 use std::alloc::Global;
 use std::marker::Model;
 
@@ -17,10 +17,11 @@ pub(crate) enum Prefix {
     Minus,
 }
 
-/// An expression of at most 256 levels, with its depth.
+/// An expression of at most 256 levels, with its depth. It has a place of its own, so that the frames of the reader,
+/// which may be hundreds deep, hold no more than its address.
 #[derive(Drop)]
 pub(crate) struct Sub {
-    expr: Expr,
+    expr: Boxed<Expr>,
     levels: u32,
 }
 
@@ -42,22 +43,23 @@ impl Model for Sub {
 }
 
 impl Sub {
-    pub(crate) fn leaf(expr: Expr) -> Sub
+    pub(crate) fn leaf(alloc: Global, expr: Expr) -> Result<Sub, NoMemory>
         requires { depth expr ≡ 1 }
-        ensures value { result ≡ expr }
-        ensures shallow { depth result ≤ EXPRESSION_LEVEL_LIMIT }
+        ensures value { IfOk result (λ s. s ≡ expr) }
+        ensures shallow { IfOk result (λ s. depth s ≤ EXPRESSION_LEVEL_LIMIT) }
     {
-        Sub { expr, levels: 1 }
+        let expr = Boxed::new(alloc, expr)?;
+        Ok(Sub { expr, levels: 1 })
     }
 
-    pub(crate) fn limited(expr: Expr, levels: u32) -> Result<Sub, ExprFault>
+    pub(crate) fn limited(alloc: Global, expr: Expr, levels: u32) -> Result<Sub, ExprFault>
         requires { levels ≡ depth expr }
-        ensures made { Makes expr result }
-        ensures memory { result ≢ Err ExprFault.NoMemory }
+        ensures { Makes expr result }
     {
         if levels > EXPRESSION_LEVEL_LIMIT {
             return Err(ExprFault::NotExpr);
         }
+        let expr = Boxed::new(alloc, expr)?;
         Ok(Sub { expr, levels })
     }
 
@@ -72,7 +74,7 @@ impl Sub {
         ensures value { result ≡ self }
         ensures shallow { depth self ≤ EXPRESSION_LEVEL_LIMIT }
     {
-        self.expr
+        self.expr.into_inner()
     }
 
     #[tactic(auto, using(crate::proofs::Rules::depths))]
@@ -80,10 +82,9 @@ impl Sub {
         ensures { Makes (prefix_of prefix self) result }
     {
         let Sub { expr, levels } = self;
-        let operand = Boxed::new(alloc, expr)?;
         match prefix {
-            Prefix::Not => Sub::limited(Expr::Not(operand), levels + 1),
-            Prefix::Minus => Sub::limited(Expr::Neg(operand), levels + 1),
+            Prefix::Not => Sub::limited(alloc, Expr::Not(expr), levels + 1),
+            Prefix::Minus => Sub::limited(alloc, Expr::Neg(expr), levels + 1),
         }
     }
 
@@ -92,7 +93,7 @@ impl Sub {
         ensures { Makes (Len self) result }
     {
         let Sub { expr, levels } = self;
-        Sub::limited(Expr::Len(Boxed::new(alloc, expr)?), levels + 1)
+        Sub::limited(alloc, Expr::Len(expr), levels + 1)
     }
 
     #[tactic(auto, using(crate::proofs::Rules::depths))]
@@ -100,7 +101,7 @@ impl Sub {
         ensures { Makes (AsText self) result }
     {
         let Sub { expr, levels } = self;
-        Sub::limited(Expr::AsText(Boxed::new(alloc, expr)?), levels + 1)
+        Sub::limited(alloc, Expr::AsText(expr), levels + 1)
     }
 
     #[tactic(auto, using(crate::proofs::Rules::depths))]
@@ -108,9 +109,7 @@ impl Sub {
         ensures { Makes (Two op left right) result }
     {
         let levels = left.levels.max(right.levels) + 1;
-        let left = Boxed::new(alloc, left.expr)?;
-        let right = Boxed::new(alloc, right.expr)?;
-        Sub::limited(Expr::Two(op, left, right), levels)
+        Sub::limited(alloc, Expr::Two(op, left.expr, right.expr), levels)
     }
 
     #[tactic(auto, using(crate::proofs::Rules::depths))]
@@ -118,8 +117,6 @@ impl Sub {
         ensures { Makes (Item list place) result }
     {
         let levels = list.levels.max(place.levels) + 1;
-        let list = Boxed::new(alloc, list.expr)?;
-        let place = Boxed::new(alloc, place.expr)?;
-        Sub::limited(Expr::Item(list, place), levels)
+        Sub::limited(alloc, Expr::Item(list.expr, place.expr), levels)
     }
 }

@@ -1,41 +1,55 @@
-use Rattle.std.proofs.Common.{rules, ◌≡◌, ◌-◌, nat_lt, None, [], ◌∷◌, ◌++◌, map, max, sym, ap, ◌∙◌}
+use Rattle.std.proofs.Common.{rules, ◌≡◌, nat_lt, None, [], ◌∷◌, ◌++◌, map, max, sym, ap, ◌∙◌}
 use Rattle.std.proofs.lemmas.Result.{IfOk-weaker}
 use Rattle.sc_types.specs.Expressions.{depth, deepest}
-use Rattle.sc_expr.specs.Descent.{loose_at, inside}
-use Rattle.sc_expr.proofs.LevelLemmas.{loose_result, chain_stops, chain_last, chain_refused, chain_too_deep, postfix_result, index_unclosed, index_too_deep, deepest-push, list_made, list_too_deep, list_step}
+use Rattle.sc_expr.specs.Descent.{inside}
+use Rattle.sc_expr.proofs.ClimbLemmas.{climbs_result, climbs_refused, climbs_push, climbs_too_deep, climbs_pop, climbs_end}
+use Rattle.sc_expr.proofs.LevelLemmas.{postfix_result, index_unclosed, index_too_deep, deepest-push, list_made, list_too_deep, list_step}
 use Rattle.sc_expr.proofs.reader.Reader.+descend.Goals as goal
-use Rattle.sc_expr.proofs.reader.Reader.+descend.Goals.{loose-in-Some+in_ok-skip+in_ok-right+in_ok-left-2+then-not-repeats, loose-in_default}
 
-pub loose-returns-in_err-right : goal.loose-returns-in_err-right
-loose-returns-in_err-right t c = record {
+pub loose-returns-in_err-operand-2 : goal.loose-returns-in_err-operand-2
+loose-returns-in_err-operand-2 t c = record {
   value = search rules;
-  refused = λ e. loose_result _ _ _ _ _ _ _ _ (search rules) c.in_ok-left.ensures.value c.loop-op.invariant.0
-      (chain_refused (loose_at c.args.room (c.args.bound - 1)) c.args.bound c.loop-op.left c.in-Some.op c.loop-op.self c.loop-op.invariant.2 (search rules) (search rules));
+  refused = λ e. climbs_result c.args.room c.loop-op.closest c.loop-op.loosest c.args.self.now c.prefixed.new.self c.loop-op.self c.in_ok-operand.operand c.loop-op.operand
+      c.loop-op.waiting None c.in_ok-operand.ensures.value c.loop-op.invariant.0
+      (climbs_refused c.args.room c.loop-op.closest c.loop-op.loosest c.loop-op.waiting c.loop-op.operand c.in-Some.op c.loop-op.self c.loop-op.invariant.2
+      (search rules) (search rules));
   shorter = search rules;
   shallow = search rules;
 }
 
-pub loose-returns-in_err-left-2 : goal.loose-returns-in_err-left-2
-loose-returns-in_err-left-2 t c = record {
+pub loose-loop-op-preserved-in-Some : goal.loose-loop-op-preserved-in-Some
+loose-loop-op-preserved-in-Some t c = (
+  climbs_push c.args.room c.loop-op.closest c.loop-op.loosest c.loop-op.waiting c.push.new.self c.loop-op.operand c.in_ok-operand-2.operand c.in-Some.op
+      c.looseness-loosest.result c.loop-op.self c.prefixed-in-Some.new.self _ c.loop-op.invariant.2 (search rules) (search rules) (search rules) (search rules)
+      c.loop-op.invariant.0,
+  search rules,
+  search rules,
+)
+
+pub loose-returns-in_err-operand-3 : goal.loose-returns-in_err-operand-3
+loose-returns-in_err-operand-3 t c = record {
   value = search rules;
-  refused = λ e. loose_result _ _ _ _ _ _ _ _ (search rules) c.in_ok-left.ensures.value c.loop-op.invariant.0
-      (chain_too_deep (loose_at c.args.room (c.args.bound - 1)) c.args.bound c.loop-op.left c.in_ok-right.right c.in-Some.op c.loop-op.self
-      c.loose-in-Some.new.self c.loop-op.invariant.2 (search rules) (search rules) (search rules));
+  refused = λ e. climbs_result c.args.room c.loop-op.closest c.loop-op.loosest c.args.self.now c.prefixed.new.self c.loop-op.self c.in_ok-operand.operand c.loop-op.operand
+      c.loop-op.waiting None c.in_ok-operand.ensures.value c.loop-op.invariant.0
+      (climbs_too_deep c.args.room c.loop-op.closest c.loop-op.loosest c.pop.new.self c.loop-op.waiting c.in-Some-pop.last c.loop-op.operand c.loop-op.self
+      c.loop-op.invariant.2 (search rules) (search rules) (search rules));
   shorter = search rules;
   shallow = search rules;
 }
 
-pub loose-returns : goal.loose-returns
-loose-returns t c = record {
-  value = loose_result _ _ _ _ _ _ _ _ (search rules) c.in_ok-left.ensures.value c.loop-op.invariant.0
-      (elim c.match-operator.branch [
-        | loose-in-Some+in_ok-skip+in_ok-right+in_ok-left-2+then-not-repeats w ↦
-            chain_last (loose_at c.args.room (c.args.bound - 1)) c.args.bound c.loop-op.left w.in_ok-right.right _ w.in-Some.op c.loop-op.self
-            _ c.loop-op.invariant.2 (search rules) (search rules) (search rules) (search rules)
-        | loose-in_default w ↦
-            let stopped = chain_stops (loose_at c.args.room (c.args.bound - 1)) c.args.bound c.loop-op.left c.loop-op.self c.loop-op.invariant.2 (search rules) in
-            search (rules, stopped)
-      ]);
+pub loose-loop-op-preserved : goal.loose-loop-op-preserved
+loose-loop-op-preserved t c = (
+  climbs_pop c.args.room c.loop-op.closest c.loop-op.loosest c.pop.new.self c.loop-op.waiting c.in-Some-pop.last c.loop-op.operand c.in_ok-operand-3.operand
+      c.closest_behind-closest.result c.loop-op.self _ c.loop-op.invariant.2 (search rules) (search rules) (search rules) (search rules) c.loop-op.invariant.0,
+  search rules,
+  search rules,
+)
+
+pub loose-returns-in_default-pop : goal.loose-returns-in_default-pop
+loose-returns-in_default-pop t c = record {
+  value = climbs_result c.args.room c.loop-op.closest c.loop-op.loosest c.args.self.now c.prefixed.new.self c.loop-op.self c.in_ok-operand.operand c.loop-op.operand
+      c.loop-op.waiting _ c.in_ok-operand.ensures.value c.loop-op.invariant.0
+      (climbs_end c.args.room c.loop-op.closest c.loop-op.loosest c.loop-op.waiting c.loop-op.operand c.loop-op.self c.loop-op.invariant.2 (search rules) (search rules));
   refused = λ e. absurd (cc);
   shorter = search rules;
   shallow = search rules;
@@ -66,11 +80,11 @@ list-returns-then-not-branch t c = record {
   value = IfOk-weaker c.limited.result _ _ (λ made fits.
       list_made c.args.room c.args.self.now c.loop-items.self c.inside.new.self c.goes_on.new.self c.loop-items.items c.push.new.self
       c.in_ok-item.item made (search rules) (search rules) c.loop-items.invariant.0 (search rules) (search rules) (search rules) fits)
-      c.limited.ensures.made.value;
+      c.limited.ensures.value;
   refused = λ e. list_too_deep c.args.room c.args.self.now c.loop-items.self c.inside.new.self c.goes_on.new.self c.loop-items.items c.push.new.self
-      c.in_ok-item.item (search rules) (search rules) c.loop-items.invariant.0 (search rules) (search rules) (search rules) (c.limited.ensures.made.refused e);
+      c.in_ok-item.item (search rules) (search rules) c.loop-items.invariant.0 (search rules) (search rules) (search rules) (c.limited.ensures.refused e);
   shorter = search rules;
-  shallow = c.limited.ensures.made.shallow;
+  shallow = c.limited.ensures.shallow;
 }
 
 pub list-loop-items-preserved : goal.list-loop-items-preserved

@@ -1,12 +1,13 @@
-use Rattle.std.proofs.Common.{◌≡◌, ◌+◌, ◌-◌, ◌*◌, ◌≤◌, nat_lt, map, length, Some}
+use Rattle.std.proofs.Common.{◌≡◌, ◌+◌, ◌*◌, ◌≤◌, nat_lt, map, length, Some}
 use Rattle.sc_types.specs.Expressions.{depth, deepest}
-use Rattle.sc_expr.specs.Descent.{chained_from, indexed_from, prefixed, postfix, all_prefixed, inside, loose_at}
+use Rattle.sc_expr.specs.Descent.{indexed_from, prefixed, postfix, all_prefixed, inside}
+use Rattle.sc_expr.proofs.ClimbLemmas.{Climbs, rising}
 use Rattle.sc_expr.proofs.LevelLemmas.{Keeps}
 use Rattle.sc_expr.proofs.reader.Reader.+descend.Given as goal
 
 -- fewer brackets may be opened inside brackets; with the same number the descent goes inwards
 abbrev pub decreases-loose : goal.decreases-loose
-decreases-loose l = 16 * l.room + 8 + l.bound
+decreases-loose l = 16 * l.room + 9
 
 abbrev pub decreases-prefixed : goal.decreases-prefixed
 decreases-prefixed l = 16 * l.room + 8
@@ -33,11 +34,11 @@ decreases-inside l = 16 * l.room + 1
 
 abbrev pub invariant-loose-loop-op : goal.invariant-loose-loop-op
 invariant-loose-loop-op l =
-    (chained_from (loose_at l.room (l.bound - 1)) l.bound l.left l.self ≡ chained_from (loose_at l.room (l.bound - 1)) l.bound l.initial.left l.initial.self)
-    × (length l.self ≤ length l.initial.self) × (depth l.left ≤ 256)
+    Climbs l.room l.waiting l.closest l.loosest l.operand l.self (rising l.room 2 6 (l.initial.operand, l.initial.self))
+    × (length l.self ≤ length l.initial.self) × (depth l.operand ≤ 256)
 
 abbrev pub decreases-loose-loop-op : goal.decreases-loose-loop-op
-decreases-loose-loop-op l = length l.self
+decreases-loose-loop-op l = 2 * length l.self + length l.waiting
 
 abbrev pub invariant-postfix-loop-alloc : goal.invariant-postfix-loop-alloc
 invariant-postfix-loop-alloc l =
