@@ -1,4 +1,5 @@
-ghost use Rattle.std.specs.Prelude.{◌≡◌, ◌++◌, IfOk, OnOk};
+ghost use Rattle.std.specs.Prelude.{◌≡◌, ◌++◌, ℕ, List, option_map, IfOk, OnOk};
+ghost use Rattle.std.specs.Borrow.{Bor};
 ghost use Rattle.sc_codec.specs.Bodies.{body_of, IsEncodable, HasForms, Spells};
 ghost use Rattle.sc_codec.specs.Reading.{Gives, install_from, start_from, post_from, tick_from, cancel_from, step_from, command_of_kind, command_from, command_of};
 ghost use Rattle.sc_types.specs.declared.command.Command.{Command};
@@ -109,7 +110,7 @@ fn command_of_kind(alloc: Global, kind: u8, rest: &[u8]) -> Result<(Command, &[u
         1 => install_from(alloc, rest),
         2 => start_from(alloc, rest),
         3 => post_from(alloc, rest),
-        4 => tick_from(rest),
+        4 => tick_from(rest).ok_or(CodecFault::NotCommand),
         5 => cancel_from(alloc, rest),
         6 => step_from(alloc, rest),
         _ => Err(CodecFault::NotCommand),
@@ -155,13 +156,11 @@ fn post_from(alloc: Global, bytes: &[u8]) -> Result<(Command, &[u8]), CodecFault
 }
 
 #[tactic(auto, unfolding(crate::specs::Reading::tick_from))]
-fn tick_from(bytes: &[u8]) -> Result<(Command, &[u8]), CodecFault>
-    ensures { Gives (λ x. (x.0, x.1.now)) result (tick_from bytes.now) }
+fn tick_from(bytes: &[u8]) -> Option<(Command, &[u8])>
+    ensures { option_map (λ (x : Command × Bor (List ℕ)). (x.0, x.1.now)) result ≡ tick_from bytes.now }
 {
-    match u64_from(bytes) {
-        Some((ticks, rest)) => Ok((Command::Tick { ticks }, rest)),
-        None => Err(CodecFault::NotCommand),
-    }
+    let (ticks, rest) = u64_from(bytes)?;
+    Some((Command::Tick { ticks }, rest))
 }
 
 #[tactic(auto, unfolding(crate::specs::Reading::cancel_from))]

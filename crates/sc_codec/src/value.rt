@@ -1,10 +1,12 @@
 // The values of a post's pairs: a byte for the kind, and what the value holds.
-ghost use Rattle.std.specs.Prelude.{◌≡◌, ◌++◌, ◌<◌, ◌^◌, length, flat_map, IsTrue, OnOk};
+ghost use Rattle.std.specs.Prelude.{◌≡◌, ◌++◌, ◌<◌, ◌^◌, ℕ, List, length, flat_map, option_map, IsTrue, OnOk};
+ghost use Rattle.std.specs.Borrow.{Bor};
 ghost use Rattle.std.specs.List.{list_all};
 ghost use Rattle.sc_codec.specs.Bodies.{value_field};
 ghost use Rattle.sc_codec.specs.Reading.{Gives, many_from, truth_from, int_from, text_from, counted_from, item_of_kind, item_from, list_from, shape_from, value_from};
 ghost use Rattle.sc_frame.specs.Fields.{number_field};
 ghost use Rattle.sc_types.specs.Values.{fits, is_item};
+ghost use Rattle.sc_types.specs.declared.value.Value.{Value};
 
 use crate::fault::CodecFault;
 use crate::field::{i64_from, text_from, u16_from};
@@ -70,20 +72,20 @@ fn shape_from(alloc: Global, bytes: &[u8]) -> Result<(Value, &[u8]), CodecFault>
 {
     match bytes {
         [] => Err(CodecFault::NotCommand),
-        [0, rest @ ..] => truth_from(rest),
+        [0, rest @ ..] => truth_from(rest).ok_or(CodecFault::NotCommand),
         [3, rest @ ..] => list_from(alloc, rest),
         [kind, rest @ ..] => item_of_kind(alloc, *kind, rest),
     }
 }
 
 #[tactic(auto, unfolding(crate::specs::Reading::truth_from))]
-fn truth_from(bytes: &[u8]) -> Result<(Value, &[u8]), CodecFault>
-    ensures { Gives (λ x. (x.0, x.1.now)) result (truth_from bytes.now) }
+fn truth_from(bytes: &[u8]) -> Option<(Value, &[u8])>
+    ensures { option_map (λ (x : Value × Bor (List ℕ)). (x.0, x.1.now)) result ≡ truth_from bytes.now }
 {
     match bytes {
-        [0, rest @ ..] => Ok((Value::Bool(false), rest)),
-        [1, rest @ ..] => Ok((Value::Bool(true), rest)),
-        _ => Err(CodecFault::NotCommand),
+        [0, rest @ ..] => Some((Value::Bool(false), rest)),
+        [1, rest @ ..] => Some((Value::Bool(true), rest)),
+        _ => None,
     }
 }
 
@@ -103,20 +105,18 @@ fn item_of_kind(alloc: Global, kind: u8, rest: &[u8]) -> Result<(Value, &[u8]), 
     ensures { Gives (λ x. (x.0, x.1.now)) result (item_of_kind kind rest.now) }
 {
     match kind {
-        1 => int_from(rest),
+        1 => int_from(rest).ok_or(CodecFault::NotCommand),
         2 => text_value(alloc, rest),
         _ => Err(CodecFault::NotCommand),
     }
 }
 
 #[tactic(auto, unfolding(crate::specs::Reading::int_from))]
-fn int_from(bytes: &[u8]) -> Result<(Value, &[u8]), CodecFault>
-    ensures { Gives (λ x. (x.0, x.1.now)) result (int_from bytes.now) }
+fn int_from(bytes: &[u8]) -> Option<(Value, &[u8])>
+    ensures { option_map (λ (x : Value × Bor (List ℕ)). (x.0, x.1.now)) result ≡ int_from bytes.now }
 {
-    match i64_from(bytes) {
-        Some((number, rest)) => Ok((Value::Int(number), rest)),
-        None => Err(CodecFault::NotCommand),
-    }
+    let (number, rest) = i64_from(bytes)?;
+    Some((Value::Int(number), rest))
 }
 
 #[tactic(auto, unfolding(crate::specs::Reading::text_from))]

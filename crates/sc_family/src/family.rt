@@ -1,4 +1,4 @@
-ghost use Rattle.std.specs.Prelude.{◌≡◌, ◌+◌, ◌-◌, ◌<◌, ◌≤◌, None, OnOk, OnErr, [], ◌∷◌, ◌++◌, length};
+ghost use Rattle.std.specs.Prelude.{◌≡◌, ◌+◌, ◌-◌, ◌<◌, ◌≤◌, None, IsOk, OnOk, OnErr, [], ◌∷◌, ◌++◌, length};
 ghost use Rattle.std.specs.Option.{option_copied};
 ghost use Rattle.std.specs.Prelude.{vec_len, vec_capacity};
 ghost use Rattle.sc_family.specs.Links.{link_for, is_live, cut_off};
@@ -66,6 +66,7 @@ impl Family {
         ensures spare { self.old.spare ≤ self.new.spare }
         ensures ok { OnOk result (count ≤ self.new.spare) }
         ensures err { OnErr result (self.new ≡ self.old) }
+        ensures enough { count ≤ self.old.spare → IsOk result × (self.new ≡ self.old) }
     {
         if count <= self.spare {
             return Ok(());

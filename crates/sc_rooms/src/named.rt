@@ -1,4 +1,4 @@
-ghost use Rattle.std.specs.Prelude.{◌≡◌, ◌-◌, ◌<◌, ◌≤◌, None, Some, [], ◌∷◌, ◌++◌, length, slice_get, slice_set, OnOk, IfSome};
+ghost use Rattle.std.specs.Prelude.{◌≡◌, ◌-◌, ◌<◌, ◌≤◌, None, Some, [], ◌∷◌, ◌++◌, length, slice_get, slice_set, IsOk, OnOk, IfSome};
 ghost use Rattle.std.specs.Option.{option_copied};
 ghost use Rattle.std.specs.Borrow.{Lends, sem};
 ghost use Rattle.sc_rooms.specs.Rooms.{place_of, AreDistinct};
@@ -110,6 +110,7 @@ impl<T: Drop> Named<T> {
         ensures items { self.new.items ≡ self.old.items }
         ensures spare { self.old.spare ≤ self.new.spare }
         ensures ok { OnOk result (count ≤ self.new.spare) }
+        ensures enough { count ≤ self.old.spare → IsOk result × (self.new ≡ self.old) }
     {
         if count <= self.spare {
             return Ok(());

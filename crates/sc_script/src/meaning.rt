@@ -95,9 +95,9 @@ fn read_form(alloc: Global, form: Form, rest: &[u8]) -> Result<Meaning, Failure<
         Form::Chart => read_chart(alloc, first, behind),
         Form::Start => read_start(alloc, first, second, more),
         Form::Post => read_post(alloc, first, second, more),
-        Form::Tick => read_tick(first, behind),
+        Form::Tick => told(read_tick(first, behind)),
         Form::Cancel => read_cancel(alloc, first, behind),
-        Form::Client => read_client(rest),
+        Form::Client => told(read_client(rest)),
     }
 }
 
@@ -161,19 +161,18 @@ fn read_post(
 }
 
 /// `tick NUMBER`
-fn read_tick(number: &[u8], more: &[u8]) -> Result<Meaning, Failure<Cause>>
-    ensures ok { IfOk result (λ m. tick_line number.now more.now ≡ Ok m) }
-    ensures fault { (cause : Cause) → result ≡ Err (Failure.Fault cause) → tick_line number.now more.now ≡ Err cause }
+fn read_tick(number: &[u8], more: &[u8]) -> Result<Meaning, Cause>
+    ensures { result ≡ tick_line number.now more.now }
 {
     if number.is_empty() {
-        return Err(Failure::Fault(Cause::Missing));
+        return Err(Cause::Missing);
     }
     if !more.is_empty() {
-        return Err(Failure::Fault(Cause::Extra));
+        return Err(Cause::Extra);
     }
     match number_of(number) {
         Some(ticks) => Ok(Meaning::Asks(Command::Tick { ticks })),
-        None => Err(Failure::Fault(Cause::BadNumber)),
+        None => Err(Cause::BadNumber),
     }
 }
 
@@ -194,12 +193,22 @@ fn read_cancel(alloc: Global, session: &[u8], more: &[u8]) -> Result<Meaning, Fa
 }
 
 /// `client`
-fn read_client(more: &[u8]) -> Result<Meaning, Failure<Cause>>
-    ensures ok { IfOk result (λ m. client_line more.now ≡ Ok m) }
-    ensures fault { (cause : Cause) → result ≡ Err (Failure.Fault cause) → client_line more.now ≡ Err cause }
+fn read_client(more: &[u8]) -> Result<Meaning, Cause>
+    ensures { result ≡ client_line more.now }
 {
     if !more.is_empty() {
-        return Err(Failure::Fault(Cause::Extra));
+        return Err(Cause::Extra);
     }
     Ok(Meaning::Client)
+}
+
+/// What a line says that was read without memory.
+fn told(line: Result<Meaning, Cause>) -> Result<Meaning, Failure<Cause>>
+    ensures ok { IfOk result (λ m. line ≡ Ok m) }
+    ensures fault { (cause : Cause) → result ≡ Err (Failure.Fault cause) → line ≡ Err cause }
+{
+    match line {
+        Ok(meaning) => Ok(meaning),
+        Err(cause) => Err(Failure::Fault(cause)),
+    }
 }
