@@ -4,6 +4,7 @@ pub mod EventlessLemmas
 pub mod FitsLaw
 pub mod IdLists
 pub mod KidLemmas
+pub mod LimitLemmas
 pub mod Rising
 pub mod SettleLemmas
 pub mod StartLemmas

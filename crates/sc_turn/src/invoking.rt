@@ -1,4 +1,4 @@
-ghost use Rattle.std.specs.Prelude.{◌≡◌, ◌+◌, ◌++◌, ◌<◌, ◌^◌, IfOk, OnOk, codes, decimal, unwrap_or, [], true};
+ghost use Rattle.std.specs.Prelude.{◌≡◌, ◌+◌, ◌++◌, ◌<◌, ◌≤◌, ◌^◌, IfErr, IfOk, OnOk, codes, decimal, unwrap_or, [], true};
 ghost use Rattle.sc_types.specs.Attributes.{text_at};
 ghost use Rattle.sc_types.specs.declared.attribute.Attribute.TheVariants as attribute;
 ghost use Rattle.sc_law.specs.Invokes.{child_name, invoke_id, is_invoke_type, start_invoke, start_invokes, start_of, start_written, started};
@@ -74,7 +74,8 @@ pub(crate) fn is_invoke(node: &Node) -> bool
 
 /// The place of an element among its parent's. An element with 2^32 child elements is larger than any memory.
 pub(crate) fn place_number(place: usize) -> Result<u32, NoMemory>
-    ensures { IfOk result (λ n. n ≡ place) }
+    ensures value { IfOk result (λ n. n ≡ place) }
+    ensures large { IfErr result (λ _. 2 ^ 32 ≤ place) }
 {
     match u32::try_from(place) {
         Ok(number) => Ok(number),

@@ -1,44 +1,42 @@
-ghost use Rattle.std.specs.Prelude.{◌≡◌, ◌+◌, ◌*◌, IfOk, IfSome};
+ghost use Rattle.std.specs.Prelude.{◌≡◌, ◌≤◌, None};
 ghost use Rattle.std.specs.Char.{digit_value};
 ghost use Rattle.std.specs.Str.Parse.{digits_value};
+ghost use Rattle.sc_law.specs.Legality.{legal_fault};
 ghost use Rattle.sc_law.specs.Turn.{round_limit};
 
-use sc_base::NoMemory;
 use sc_types::{Attribute, Chart};
 
 /// The rounds of a turn of a chart without a `limit`.
 const ROUND_LIMIT: u64 = 1000;
 
-/// How many rounds a turn of the chart may have. A limit that no text of a chart spells is answered as being out of
-/// memory: one that is no number, or is 2^64 or more.
-pub(crate) fn round_limit(chart: &Chart) -> Result<u64, NoMemory>
-    ensures { IfOk result (λ n. n ≡ round_limit chart.now) }
+/// How many rounds a turn of a legal chart may have.
+#[tactic(auto, using(crate::proofs::LimitLemmas::limits))]
+pub(crate) fn round_limit(chart: &Chart) -> u64
+    requires { legal_fault chart.now ≡ None }
+    ensures { result ≡ round_limit chart.now }
 {
     match chart.root.text(Attribute::Limit) {
         Some(text) => number_of(text),
-        None => Ok(ROUND_LIMIT),
+        None => ROUND_LIMIT,
     }
 }
 
-fn number_of(text: &[u8]) -> Result<u64, NoMemory>
-    ensures { IfOk result (λ n. n ≡ digits_value 10 text.now) }
+/// The number that digits write, which is within the limits of charts.
+fn number_of(text: &[u8]) -> u64
+    requires { digits_value 10 text.now ≤ 10000 }
+    ensures { result ≡ digits_value 10 text.now }
 {
     let mut number = 0;
-    for digit in text {
-        let Some(longer) = followed_by(number, *digit) else {
-            return Err(NoMemory);
-        };
-        number = longer;
+    for byte in text {
+        number = number * 10 + digit(*byte);
     }
-    Ok(number)
+    number
 }
 
-/// The number with one digit more.
-fn followed_by(number: u64, digit: u8) -> Option<u64>
-    ensures { IfSome result (λ n. n ≡ number * 10 + digit_value digit) }
+/// What a byte is worth as a digit of base 36; 36 where it is none. The text of a limit that was read has decimal
+/// digits alone.
+fn digit(byte: u8) -> u64
+    ensures { result ≡ digit_value byte }
 {
-    if digit < b'0' || digit > b'9' {
-        return None;
-    }
-    number.checked_mul(10)?.checked_add(u64::from(digit - b'0'))
+    u64::from(char::from(byte).to_digit(36).unwrap_or(36))
 }

@@ -57,7 +57,7 @@ impl Plan {
         requires { legal_fault (arc_value chart.now) ≡ None }
         ensures { IfOk result (λ p. p ≡ arc_value chart.now) }
     {
-        let limit = round_limit(chart)?;
+        let limit = round_limit(chart);
         let name = chart_name(alloc, chart)?;
         let tables = build(alloc, chart)?;
         let state_ids = shared_ids(alloc, &tables)?;
