@@ -182,7 +182,8 @@ fn read_member(
     attribute: Attribute,
 ) -> Result<Option<Member>, Failure<Attribute>>
     ensures ok { IfOk result (λ o. (is_bad_code (expr_of plain) tag (view value.now) attribute ≡ false)
-        × (option_map (λ m. (attribute_text attribute, m)) o ≡ member_at (expr_of plain) tag (view value.now) attribute)) }
+        × (option_map (λ m. (attribute_text attribute, m)) o
+        ≡ member_at (expr_of plain) tag (view value.now) attribute)) }
     ensures bad { (a : Attribute) → result ≡ Err (Failure.Fault a) → (a ≡ attribute)
         × (is_bad_code (expr_of plain) tag (view value.now) attribute ≡ true) }
 {

@@ -90,7 +90,8 @@ fn recall(
     requires bound { bound ≤ state_count t.now }
     requires s { s < state_count t.now }
     requires width { HasWidth (state_count t.now) e.old }
-    ensures { OnOk result (Becomes (state_count t.now) (recall t.now bound (down t.now h.now bound levels) s (value_of_history h.now s)) e.old e.new) }
+    ensures { OnOk result (Becomes (state_count t.now)
+        (recall t.now bound (down t.now h.now bound levels) s (value_of_history h.now s)) e.old e.new) }
 {
     let limit = bound_of(t, bound, s);
     match value_of(t, h, s) {
@@ -146,7 +147,8 @@ fn by_default(
     requires bound { bound ≤ state_count t.now }
     requires s { s < state_count t.now }
     requires width { HasWidth (state_count t.now) e.old }
-    ensures { OnOk result (Becomes (state_count t.now) (by_default t.now (down t.now h.now bound levels) s) e.old e.new) }
+    ensures { OnOk result (Becomes (state_count t.now)
+        (by_default t.now (down t.now h.now bound levels) s) e.old e.new) }
 {
     e.defaults.add(s);
     reach(t, h, bound, levels, s, t.defaults(s), e)
@@ -169,7 +171,8 @@ fn reach(
     requires limit { limit ≤ state_count t.now }
     requires ss { All (λ s. s < state_count t.now) ss.now }
     requires width { HasWidth (state_count t.now) e.old }
-    ensures { OnOk result (Becomes (state_count t.now) (reach t.now (down t.now h.now bound levels) limit ss.now) e.old e.new) }
+    ensures { OnOk result (Becomes (state_count t.now)
+        (reach t.now (down t.now h.now bound levels) limit ss.now) e.old e.new) }
 {
     down_each(t, h, bound, levels, ss, e)?;
     up_each(t, h, bound, levels, limit, ss, e)
@@ -213,7 +216,8 @@ fn up_each(
     requires limit { limit ≤ state_count t.now }
     requires ss { All (λ s. s < state_count t.now) ss.now }
     requires width { HasWidth (state_count t.now) e.old }
-    ensures { OnOk result (Becomes (state_count t.now) (each (up t.now (down t.now h.now bound levels) limit) ss.now) e.old e.new) }
+    ensures { OnOk result (Becomes (state_count t.now)
+        (each (up t.now (down t.now h.now bound levels) limit) ss.now) e.old e.new) }
 {
     for s in ss {
         up(t, h, bound, levels, limit, *s, e)?;
@@ -265,7 +269,8 @@ fn pass(
     requires limit { limit ≤ state_count t.now }
     requires s { s < state_count t.now }
     requires width { HasWidth (state_count t.now) e.old }
-    ensures { OnOk result (Becomes (state_count t.now) (passed t.now (down t.now h.now bound levels) limit s) e.old e.new) }
+    ensures { OnOk result (Becomes (state_count t.now)
+        (passed t.now (down t.now h.now bound levels) limit s) e.old e.new) }
 {
     if t.is_below(s, limit) {
         through(t, h, bound, levels, s, e)

@@ -41,9 +41,9 @@ pub struct LogLine {
     pub value: Value,
 }
 
-/// One event of the host machine: a command, who made it, and what the host answered, logged and delivered. Fields lie in
-/// memory in this order, and the reply, which holds 16-byte numbers, stands first, since that leaves no gaps: a history of
-/// a million posts is a million entries.
+/// One event of the host machine: a command, who made it, and what the host answered, logged and delivered. Fields lie
+/// in memory in this order, and the reply, which holds 16-byte numbers, stands first, since that leaves no gaps: a
+/// history of a million posts is a million entries.
 #[derive(Clone, Debug, Drop, PartialEq, Eq)]
 pub struct Entry {
     pub reply: Reply,
