@@ -1,9 +1,10 @@
 -- The pieces of a text: the first of them, and those behind it.
-use Rattle.std.proofs.Common.{◌≡◌, ℕ, ◌+◌, ◌<◌, ◌≤◌, zero, suc, Bool, true, false, cond, nat_lt, filter, Some, None, List, [], ◌∷◌, ◌++◌, length, take, drop, get_or, refl, arith, ap, ◌∙◌}
+use Rattle.std.proofs.Common.{◌≡◌, ◌&&◌, ℕ, ◌+◌, ◌<◌, ◌≤◌, zero, suc, Bool, true, false, cond, nat_lt, filter, Some, None, List, [], ◌∷◌, ◌++◌, length, take, drop, get_or, refl, arith, ap, ◌∙◌}
 use Rattle.std.proofs.lemmas.List.Quantifiers.{position-Some}
+use Rattle.std.proofs.lemmas.List.Folds.{list_all-append}
 use Rattle.std.proofs.lemmas.List.Sums.{fails_before_first}
 use Rattle.std.proofs.lemmas.Grind.{common_steps}
-use Rattle.std.specs.List.{position, position_or_len}
+use Rattle.std.specs.List.{list_all, position, position_or_len}
 use Rattle.sc_types.specs.Descriptors.{is_white_space, grow_first, split_at, pieces}
 use Rattle.sc_chart_json.specs.Pieces.{kept}
 
@@ -49,3 +50,8 @@ pub pieces-only : (xs : List ℕ) → position is_white_space xs ≡ None → pi
 pieces-only xs found =
     let whole : length xs ≤ position_or_len is_white_space xs = grind (arith, common_steps) in
     ap (filter (λ piece. nat_lt 0 (length piece))) (split_at-only xs (λ k b. fails_before_first is_white_space xs k 0 (omega arith)))
+
+-- the pieces of a text pass a test where the first one and those behind it do
+pub all_pieces-first : (test : List ℕ → Bool) (xs : List ℕ) (i : ℕ) → position is_white_space xs ≡ Some i
+    → list_all test (pieces xs) ≡ list_all test (kept (take i xs)) && list_all test (pieces (drop (i + 1) xs))
+all_pieces-first test xs i found = ap (list_all test) (pieces-first xs i found) ∙ list_all-append test (kept (take i xs)) (pieces (drop (i + 1) xs))

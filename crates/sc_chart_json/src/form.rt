@@ -1,29 +1,27 @@
-ghost use Rattle.std.specs.Prelude.{◌≡◌, ◌<◌, ◌^◌, nat_lt, length, IfOk, IsTrue};
+ghost use Rattle.std.specs.Prelude.{◌≡◌, ◌<◌, ◌^◌, nat_lt, length, IsTrue};
 ghost use Rattle.std.specs.List.{list_all};
 ghost use Rattle.std.specs.Str.Parse.{digits_value};
 ghost use Rattle.sc_types.specs.Delays.{are_digits};
+ghost use Rattle.sc_types.specs.Descriptors.{pieces};
 ghost use Rattle.sc_types.specs.Elements.{is_word_within, are_pieces, is_either, has_leading_zero, is_limit, has_form};
 ghost use Rattle.sc_base.specs.Text.{is_word, is_plain_name};
+ghost use Rattle.sc_chart_json.specs.Pieces.{kept, is_piece};
 
-use crate::pieces::{is_tight, pieces};
+use crate::pieces::{is_tight, white_space_in};
 use sc_expr::read_delay;
 use sc_types::{
-    Bytes, EVENT_NAME_LIMIT, Form, ID_LIMIT, NAME_LIMIT, NoMemory, TYPE_NAME_LIMIT, is_plain_name,
-    is_text, is_word,
+    EVENT_NAME_LIMIT, Form, ID_LIMIT, NAME_LIMIT, TYPE_NAME_LIMIT, is_plain_name, is_text, is_word,
 };
-use std::alloc::Global;
 
 /// Whether a text has this form. Expressions are left to their reader.
-pub(crate) fn has_form(alloc: Global, form: Form, text: &[u8]) -> Result<bool, NoMemory>
-    ensures { IfOk result (λ fits. fits ≡ has_form form text.now) }
+pub(crate) fn has_form(form: Form, text: &[u8]) -> bool
+    ensures { result ≡ has_form form text.now }
 {
-    Ok(match form {
+    match form {
         Form::Id => is_word_within(ID_LIMIT, text),
-        Form::Ids => are_ids(alloc, text)?,
+        Form::Ids | Form::PlainNames | Form::Descriptors => are_pieces(form, text),
         Form::PlainName => is_plain_name(text),
-        Form::PlainNames => are_plain_names(alloc, text)?,
         Form::EventName => is_word_within(EVENT_NAME_LIMIT, text),
-        Form::Descriptors => are_words(alloc, text)?,
         Form::SendTarget => text.len() <= 512,
         Form::TypeName => text.len() <= TYPE_NAME_LIMIT,
         Form::TransitionType => is_either("external", "internal", text),
@@ -38,7 +36,7 @@ pub(crate) fn has_form(alloc: Global, form: Form, text: &[u8]) -> Result<bool, N
         Form::Label => is_text(text),
         Form::Delay => read_delay(text).is_some(),
         Form::Code => true,
-    })
+    }
 }
 
 fn is_word_within(limit: usize, text: &[u8]) -> bool
@@ -53,45 +51,42 @@ fn is_either(a: &str, b: &str, text: &[u8]) -> bool
     text == a.as_bytes() || text == b.as_bytes()
 }
 
+/// Whether a text is one or more pieces of this form.
 #[tactic(auto, unfolding(sc_types::specs::Elements::are_pieces))]
-fn are_ids(alloc: Global, text: &[u8]) -> Result<bool, NoMemory>
-    ensures { IfOk result (λ fits. fits ≡ are_pieces (is_word_within ID_LIMIT) text.now) }
+fn are_pieces(form: Form, text: &[u8]) -> bool
+    ensures { result ≡ are_pieces (is_piece form) text.now }
 {
-    Ok(is_tight(text) && are_all_ids(pieces(alloc, text)?.slice()))
+    is_tight(text) && are_all_pieces(form, text)
 }
 
-fn are_all_ids(pieces: &[Bytes]) -> bool
-    ensures { result ≡ list_all (is_word_within ID_LIMIT) pieces.now }
+fn are_all_pieces(form: Form, text: &[u8]) -> bool
+    ensures { result ≡ list_all (is_piece form) (pieces text.now) }
 {
-    pieces
-        .iter()
-        .all(|piece| is_word_within(ID_LIMIT, piece.slice()))
+    let mut rest = text;
+    while let Some(place) = white_space_in(rest) {
+        if !is_piece_or_empty(form, &rest[..place]) {
+            return false;
+        }
+        rest = &rest[place + 1..];
+    }
+    is_piece_or_empty(form, rest)
 }
 
-#[tactic(auto, unfolding(sc_types::specs::Elements::are_pieces))]
-fn are_plain_names(alloc: Global, text: &[u8]) -> Result<bool, NoMemory>
-    ensures { IfOk result (λ fits. fits ≡ are_pieces is_plain_name text.now) }
+/// There is no piece between two spaces.
+fn is_piece_or_empty(form: Form, piece: &[u8]) -> bool
+    ensures { result ≡ list_all (is_piece form) (kept piece.now) }
 {
-    Ok(is_tight(text) && are_all_plain_names(pieces(alloc, text)?.slice()))
+    piece.is_empty() || is_piece(form, piece)
 }
 
-fn are_all_plain_names(pieces: &[Bytes]) -> bool
-    ensures { result ≡ list_all is_plain_name pieces.now }
+fn is_piece(form: Form, piece: &[u8]) -> bool
+    ensures { result ≡ is_piece form piece.now }
 {
-    pieces.iter().all(|piece| is_plain_name(piece.slice()))
-}
-
-#[tactic(auto, unfolding(sc_types::specs::Elements::are_pieces))]
-fn are_words(alloc: Global, text: &[u8]) -> Result<bool, NoMemory>
-    ensures { IfOk result (λ fits. fits ≡ are_pieces is_word text.now) }
-{
-    Ok(is_tight(text) && are_all_words(pieces(alloc, text)?.slice()))
-}
-
-fn are_all_words(pieces: &[Bytes]) -> bool
-    ensures { result ≡ list_all is_word pieces.now }
-{
-    pieces.iter().all(|piece| is_word(piece.slice()))
+    match form {
+        Form::Ids => is_word_within(ID_LIMIT, piece),
+        Form::PlainNames => is_plain_name(piece),
+        _ => is_word(piece),
+    }
 }
 
 /// Decimal digits without a leading zero, of a number of 32 bits.

@@ -6,6 +6,8 @@ mod form;
 mod members;
 mod pieces;
 mod reader;
+mod room;
+mod tree;
 mod writer;
 
 pub use reader::read_chart;

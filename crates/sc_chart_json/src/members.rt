@@ -1,8 +1,8 @@
-ghost use Rattle.std.specs.Prelude.{◌≡◌, ◌&&◌, ◌||◌, codes, string_bytes, true, false, is_none, IfOk, Err, None, Some, option_map, find};
+ghost use Rattle.std.specs.Prelude.{◌≡◌, ◌&&◌, ◌||◌, codes, [], true, false, is_none, IfOk, Err, None, Some, option_map, find};
 ghost use Rattle.std.specs.List.{list_all, list_any, filter_map};
 ghost use Rattle.std.specs.Str.{bytes_eq};
 ghost use Rattle.std.specs.Option.{option_map_or};
-ghost use Rattle.serde_json.specs.View.{view, items_view};
+ghost use Rattle.sc_chart_json.specs.Trees.{view, items_view};
 ghost use Rattle.sc_types.specs.Profiles.{plain};
 ghost use Rattle.sc_types.specs.Elements.{attribute_text, is_code};
 ghost use Rattle.sc_types.specs.ChartTexts.{text_at, kids_at, is_known, has_known_members, has_fit_kids, is_given, is_fit, has_one, has_fit_members, is_bad_code, bad_code, member_of, member_at, members_at};
@@ -11,43 +11,51 @@ ghost use Rattle.sc_expr.specs.Reading.{expr_of};
 use crate::element::{attributes, either, required};
 use crate::form::has_form;
 use crate::pieces::pieces;
-use sc_base::{Bytes, Failure, NoMemory, Sequence};
+use crate::room::{own_members, with_room};
+use crate::tree::{as_array, as_object, as_str, member};
+use json::Value;
+use sc_base::{Bytes, Failure, Sequence};
 use sc_expr::{ExprFault, read_expr};
 use sc_types::{Attribute, Form, Member, Tag};
-use serde_json::{Map, Value};
 use std::alloc::Global;
 
-pub(crate) fn text_at<'v>(value: &'v Value, name: &str) -> Option<&'v [u8]>
+pub(crate) fn text_at<'a>(value: &Value<'a>, name: &str) -> Option<&'a [u8]>
     ensures { option_map (λ t. t.now) result ≡ text_at name.now (view value.now) }
 {
-    match value.get(name) {
-        Some(found) => found.as_str().map(|text| text.as_bytes()),
+    match member(value, name) {
+        Some(found) => as_str(found).map(|text| text.as_bytes()),
         None => None,
     }
 }
 
 /// The child elements; none where there is no array of them.
-pub(crate) fn kids_at(value: &Value) -> &[Value]
+pub(crate) fn kids_at<'v, 'a>(value: &'v Value<'a>) -> &'v [Value<'a>]
     ensures { items_view result.now ≡ kids_at (view value.now) }
 {
-    match value.get("kids").and_then(Value::as_array) {
-        Some(kids) => kids.as_slice(),
+    slice_or_empty(member(value, "kids").and_then(as_array))
+}
+
+fn slice_or_empty<T>(items: Option<&Vec<T>>) -> &[T]
+    ensures { result.now ≡ option_map_or (λ v. v.now.items) items.entry [] }
+{
+    match items {
+        Some(items) => items.as_slice(),
         None => &[],
     }
 }
 
 /// Whether each member is one that the element may have.
-pub(crate) fn has_known_members(tag: Tag, value: &Value) -> bool
+pub(crate) fn has_known_members(tag: Tag, value: &Value<'_>) -> bool
     ensures { result ≡ has_known_members tag (view value.now) }
 {
-    match value.as_object() {
+    match as_object(value) {
         Some(members) => are_known(tag, members),
         None => true,
     }
 }
 
-fn are_known(tag: Tag, members: &Map<String, Value>) -> bool
-    ensures { result ≡ list_all (λ m. is_known tag (string_bytes m.0)) members.now.entries }
+fn are_known(tag: Tag, members: &[(&str, Value<'_>)]) -> bool
+    ensures { result ≡ list_all (λ m. is_known tag m.0.now) members.now }
 {
     members.iter().all(|m| is_known(tag, m.0.as_bytes()))
 }
@@ -65,45 +73,45 @@ fn is_named(attributes: &[Attribute], name: &[u8]) -> bool
 }
 
 /// Whether each element may have the member.
-fn is_of_each(name: &[u8]) -> bool
+pub(crate) fn is_of_each(name: &[u8]) -> bool
     ensures { result ≡ bytes_eq name.now (codes "tag") || bytes_eq name.now (codes "kids") }
 {
     matches!(name, b"tag" | b"kids")
 }
 
 /// Whether each member has its form, expressions aside, and none is missing.
-pub(crate) fn has_fit_members(alloc: Global, tag: Tag, value: &Value) -> Result<bool, NoMemory>
-    ensures { IfOk result (λ fits. fits ≡ has_fit_members tag (view value.now)) }
+pub(crate) fn has_fit_members(tag: Tag, value: &Value<'_>) -> bool
+    ensures { result ≡ has_fit_members tag (view value.now) }
 {
-    if !has_fit_kids(value) || !are_fit(alloc, attributes(tag), tag, value)? {
-        return Ok(false);
-    }
-    Ok(are_given(value, required(tag)) && has_one(value, either(tag)))
+    has_fit_kids(value)
+        && are_fit(attributes(tag), tag, value)
+        && are_given(value, required(tag))
+        && has_one(value, either(tag))
 }
 
-fn are_given(value: &Value, attributes: &[Attribute]) -> bool
+fn are_given(value: &Value<'_>, attributes: &[Attribute]) -> bool
     ensures { result ≡ list_all (is_given (view value.now)) attributes.now }
 {
     attributes.iter().all(|a| is_given(value, *a))
 }
 
-fn has_fit_kids(value: &Value) -> bool
+fn has_fit_kids(value: &Value<'_>) -> bool
     ensures { result ≡ has_fit_kids (view value.now) }
 {
-    match value.get("kids") {
-        Some(kids) => kids.is_array(),
+    match member(value, "kids") {
+        Some(kids) => as_array(kids).is_some(),
         None => true,
     }
 }
 
-fn is_given(value: &Value, attribute: Attribute) -> bool
+fn is_given(value: &Value<'_>, attribute: Attribute) -> bool
     ensures { result ≡ is_given (view value.now) attribute }
 {
-    value.get(attribute.text()).is_some()
+    member(value, attribute.text()).is_some()
 }
 
 /// Whether exactly one of the two is given, where there are two.
-fn has_one(value: &Value, two: Option<(Attribute, Attribute)>) -> bool
+fn has_one(value: &Value<'_>, two: Option<(Attribute, Attribute)>) -> bool
     ensures { result ≡ option_map_or (has_one (view value.now)) two true }
 {
     match two {
@@ -112,31 +120,21 @@ fn has_one(value: &Value, two: Option<(Attribute, Attribute)>) -> bool
     }
 }
 
-fn are_fit(
-    alloc: Global,
-    attributes: &[Attribute],
-    tag: Tag,
-    value: &Value,
-) -> Result<bool, NoMemory>
-    ensures { IfOk result (λ fits. fits ≡ list_all (is_fit tag (view value.now)) attributes.now) }
+fn are_fit(attributes: &[Attribute], tag: Tag, value: &Value<'_>) -> bool
+    ensures { result ≡ list_all (is_fit tag (view value.now)) attributes.now }
 {
-    for attribute in attributes {
-        if !is_fit(alloc, tag, value, *attribute)? {
-            return Ok(false);
-        }
-    }
-    Ok(true)
+    attributes.iter().all(|a| is_fit(tag, value, *a))
 }
 
-fn is_fit(alloc: Global, tag: Tag, value: &Value, attribute: Attribute) -> Result<bool, NoMemory>
-    ensures { IfOk result (λ fits. fits ≡ is_fit tag (view value.now) attribute) }
+fn is_fit(tag: Tag, value: &Value<'_>, attribute: Attribute) -> bool
+    ensures { result ≡ is_fit tag (view value.now) attribute }
 {
-    let Some(given) = value.get(attribute.text()) else {
-        return Ok(true);
+    let Some(given) = member(value, attribute.text()) else {
+        return true;
     };
-    match given.as_str() {
-        Some(text) => has_form(alloc, attribute.form(tag), text.as_bytes()),
-        None => Ok(false),
+    match as_str(given) {
+        Some(text) => has_form(attribute.form(tag), text.as_bytes()),
+        None => false,
     }
 }
 
@@ -144,7 +142,7 @@ fn is_fit(alloc: Global, tag: Tag, value: &Value, attribute: Attribute) -> Resul
 pub(crate) fn read_members(
     alloc: Global,
     tag: Tag,
-    value: &Value,
+    value: &Value<'_>,
 ) -> Result<Sequence<(Bytes, Member)>, Failure<Attribute>>
     ensures ok { IfOk result (λ ms. (bad_code (expr_of plain) tag (view value.now) ≡ None)
         × (ms ≡ members_at (expr_of plain) tag (view value.now))) }
@@ -158,14 +156,15 @@ fn read_all(
     alloc: Global,
     attributes: &[Attribute],
     tag: Tag,
-    value: &Value,
+    value: &Value<'_>,
 ) -> Result<Sequence<(Bytes, Member)>, Failure<Attribute>>
     ensures ok { IfOk result (λ ms. (find (is_bad_code (expr_of plain) tag (view value.now)) attributes.now ≡ None)
         × (ms ≡ filter_map (member_at (expr_of plain) tag (view value.now)) attributes.now)) }
     ensures bad { (a : Attribute) → result ≡ Err (Failure.Fault a)
         → find (is_bad_code (expr_of plain) tag (view value.now)) attributes.now ≡ Some a }
 {
-    let mut members = Sequence::new(alloc);
+    let room = own_members(value).min(attributes.len());
+    let mut members = with_room(alloc, room)?;
     for attribute in attributes {
         if let Some(member) = read_member(alloc, tag, value, *attribute)? {
             let name = Bytes::from_slice(alloc, attribute.text().as_bytes())?;
@@ -178,7 +177,7 @@ fn read_all(
 fn read_member(
     alloc: Global,
     tag: Tag,
-    value: &Value,
+    value: &Value<'_>,
     attribute: Attribute,
 ) -> Result<Option<Member>, Failure<Attribute>>
     ensures ok { IfOk result (λ o. (is_bad_code (expr_of plain) tag (view value.now) attribute ≡ false)

@@ -20,7 +20,7 @@ pub(crate) fn pieces(alloc: Global, text: &[u8]) -> Result<Sequence<Bytes>, NoMe
 }
 
 /// The place of the first white space.
-fn white_space_in(text: &[u8]) -> Option<usize>
+pub(crate) fn white_space_in(text: &[u8]) -> Option<usize>
     ensures value { result ≡ position is_white_space text.now }
     ensures within { IfSome result (λ place. place < length text.now) }
 {

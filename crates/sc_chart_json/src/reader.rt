@@ -1,9 +1,8 @@
-ghost use Rattle.std.specs.Prelude.{◌≡◌, ◌<◌, ◌≤◌, ◌+◌, ◌-◌, ◌^◌, nat_lt, ℕ, [], ◌∷◌, Option, None, Some, Ok, Err, IfOk, OnOk, length, if◌then◌else◌};
+ghost use Rattle.std.specs.Prelude.{◌≡◌, ◌≢◌, ◌<◌, ◌≤◌, ◌+◌, ◌-◌, ◌^◌, nat_lt, ℕ, [], ◌∷◌, Option, None, Some, Ok, Err, IfOk, OnOk, length, if◌then◌else◌};
 ghost use Rattle.std.specs.Option.{option_map_or};
 ghost use Rattle.sc_types.specs.Profiles.{plain};
 ghost use Rattle.sc_types.specs.Elements.{is_numbered, attribute_text};
-ghost use Rattle.serde_json.specs.Errors.{IsMemory};
-ghost use Rattle.serde_json.specs.View.{view, items_view};
+ghost use Rattle.sc_chart_json.specs.Trees.{view, items_view};
 ghost use Rattle.sc_types.specs.ChartTexts.{chart_of, fault, own_fault, many_fault, bad_code, tag_at, kid_places, places, value_fault, value_chart, members_at};
 ghost use Rattle.sc_types.specs.declared.chart.ChartFault.{ChartFault};
 ghost use Rattle.sc_types.specs.declared.faults.TheConstants.{BAD_EXPR, NOT_JSON};
@@ -12,6 +11,9 @@ ghost use Rattle.sc_expr.specs.Reading.{expr_of};
 ghost use Rattle.sc_chart_json.specs.Walking.{place, Stops, levels_at, IsOwn, IsRead, AreRead};
 
 use crate::members::{has_fit_members, has_known_members, kids_at, read_members, text_at};
+use crate::room::with_room;
+use crate::tree::read_tree;
+use json::{Error, Scratch, Value};
 use sc_base::{Bytes, Failure, NoMemory, Plain, Sequence};
 use sc_types::faults::{
     BAD_EXPR, BAD_MEMBER, NOT_ELEMENT, NOT_JSON, TOO_DEEP, TOO_LARGE, TOO_MANY, UNKNOWN_MEMBER,
@@ -21,7 +23,6 @@ use sc_types::{
     Attribute, CHART_TEXT_LIMIT, Chart, ChartFault, ChartRefusal, LEVEL_LIMIT, Member, Node,
     STATE_LIMIT, Tag,
 };
-use serde_json::{Category, Error, Value};
 use std::alloc::Global;
 
 /// The chart that a text spells, or its first fault.
@@ -33,20 +34,21 @@ pub fn read_chart(alloc: Global, text: &[u8]) -> Result<Chart, ChartRefusal>
     if text.len() > CHART_TEXT_LIMIT {
         return Err(fault(alloc, TOO_LARGE));
     }
-    match Value::from_slice(alloc, text) {
+    let mut scratch = Scratch::new(alloc);
+    match read_tree(alloc, text, &mut scratch) {
         Ok(value) => read_root(alloc, &value),
-        Err(error) => Err(refusal_of(alloc, &error)),
+        Err(error) => Err(refusal_of(alloc, error)),
     }
 }
 
-/// Why no value was read: memory, or a text that is no JSON.
-fn refusal_of(alloc: Global, error: &Error) -> ChartRefusal
-    ensures memory { IsMemory error.now → result ≡ ChartRefusal.NoMemory }
-    ensures not_json { ¬ IsMemory error.now → result ≡ ChartRefusal.Fault (fault NOT_JSON [] []) }
+/// Why no value was read: memory, or a text that is no JSON. No other error comes.
+fn refusal_of(alloc: Global, error: Error) -> ChartRefusal
+    ensures not_json { error ≡ Error.Invalid → result ≡ ChartRefusal.Fault (fault NOT_JSON [] []) }
+    ensures memory { error ≢ Error.Invalid → result ≡ ChartRefusal.NoMemory }
 {
-    match error.classify() {
-        Category::Memory => ChartRefusal::NoMemory,
-        _ => fault(alloc, NOT_JSON),
+    match error {
+        Error::Invalid => fault(alloc, NOT_JSON),
+        _ => ChartRefusal::NoMemory,
     }
 }
 
@@ -62,7 +64,7 @@ fn fault(alloc: Global, number: u8) -> ChartRefusal
 }
 
 #[tactic(auto, using(crate::proofs::WalkLemmas::walks))]
-fn read_root(alloc: Global, value: &Value) -> Result<Chart, ChartRefusal>
+fn read_root(alloc: Global, value: &Value<'_>) -> Result<Chart, ChartRefusal>
     ensures chart { IfOk result (λ c. (value_fault expr_of (view value.now) ≡ None)
         × (c ≡ value_chart expr_of (view value.now))) }
     ensures fault { (f : ChartFault) → result ≡ Err (ChartRefusal.Fault f)
@@ -120,7 +122,7 @@ impl Walk {
 
     /// Reads an element without its child elements.
     #[tactic(auto, using(crate::proofs::FaultLemmas::own_faults))]
-    fn own(&mut self, alloc: Global, value: &Value) -> Result<Own, ChartRefusal>
+    fn own(&mut self, alloc: Global, value: &Value<'_>) -> Result<Own, ChartRefusal>
         requires { self.old.states ≤ STATE_LIMIT }
         ensures ok { IfOk result (IsOwn self.old self.new (view value.now)) }
         ensures fault { (f : ChartFault) → result ≡ Err (ChartRefusal.Fault f)
@@ -130,7 +132,7 @@ impl Walk {
         if !has_known_members(tag, value) {
             return Err(self.fault(alloc, UNKNOWN_MEMBER));
         }
-        if !has_fit_members(alloc, tag, value)? {
+        if !has_fit_members(tag, value) {
             return Err(self.fault(alloc, BAD_MEMBER));
         }
         let members = self.members(alloc, tag, value)?;
@@ -139,7 +141,7 @@ impl Walk {
     }
 
     #[tactic(auto, using(crate::proofs::FaultLemmas::tag_faults))]
-    fn tag(&self, alloc: Global, value: &Value) -> Result<Tag, ChartRefusal>
+    fn tag(&self, alloc: Global, value: &Value<'_>) -> Result<Tag, ChartRefusal>
         ensures ok { IfOk result (λ t. (tag_at (view value.now) ≡ Some t) × (length self.now.path < LEVEL_LIMIT)) }
         ensures fault { (f : ChartFault) → result ≡ Err (ChartRefusal.Fault f) → (before : ℕ)
             → own_fault (expr_of plain) before (place self.now.path (view value.now)) ≡ Some f }
@@ -160,7 +162,7 @@ impl Walk {
         &self,
         alloc: Global,
         tag: Tag,
-        value: &Value,
+        value: &Value<'_>,
     ) -> Result<Sequence<(Bytes, Member)>, ChartRefusal>
         ensures ok { IfOk result (λ ms. (bad_code (expr_of plain) tag (view value.now) ≡ None)
             × (ms ≡ members_at (expr_of plain) tag (view value.now))) }
@@ -200,7 +202,7 @@ impl Walk {
 
 #[cycle(element)]
 #[tactic(auto, using(crate::proofs::WalkLemmas::walks))]
-fn read_element(alloc: Global, walk: &mut Walk, value: &Value) -> Result<Node, ChartRefusal>
+fn read_element(alloc: Global, walk: &mut Walk, value: &Value<'_>) -> Result<Node, ChartRefusal>
     requires few { walk.old.states ≤ STATE_LIMIT }
     requires shallow { length walk.old.path ≤ LEVEL_LIMIT }
     ensures ok { IfOk result (IsRead walk.old walk.new (view value.now)) }
@@ -220,7 +222,7 @@ fn read_element(alloc: Global, walk: &mut Walk, value: &Value) -> Result<Node, C
 fn read_kids(
     alloc: Global,
     walk: &mut Walk,
-    values: &[Value],
+    values: &[Value<'_>],
 ) -> Result<Sequence<Node>, ChartRefusal>
     requires few { walk.old.states ≤ STATE_LIMIT }
     requires shallow { length walk.old.path < LEVEL_LIMIT }
@@ -228,7 +230,7 @@ fn read_kids(
     ensures fault { (f : ChartFault) → result ≡ Err (ChartRefusal.Fault f) → Stops walk.old.states
         (kid_places (places (LEVEL_LIMIT - length walk.old.path)) walk.old.path 0 (items_view values.now)) f }
 {
-    let mut kids = Sequence::new(alloc);
+    let mut kids = with_room(alloc, values.len())?;
     let mut place: u32 = 0;
     for value in values {
         walk.path.push(place)?;

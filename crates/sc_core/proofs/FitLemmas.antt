@@ -115,28 +115,11 @@ live-runs phase.Fresh past live = absurd past
 live-runs phase.Running past live = refl
 live-runs (phase.Ended how) past live = absurd (cc)
 
--- what a turn gave, as an engine tells it
+-- what a turn gave that was computed of the same chart, session and cue
 pub turned-is : (k : Chart) (before : SessionState) (cue : Cue) (t : TurnedOf) → IsTurnOf k before cue t → IsTurn t
-    → turn k before cue ≡ record { after = t.after; effects = t.effects; logs = t.logs }
+    → t.given ≡ turn k before cue
 turned-is k before cue t of is =
-    ap (λ c. turn c before cue) (sym of.0) ∙ ap (λ b. turn t.chart b cue) (sym of.1) ∙ ap (turn t.chart t.before) (sym of.2) ∙ is
-
--- a session that goes on after a turn fits its chart, as the engine says
-pub stepped-fits : (g : HostImage) (s stepped : SessionImage) (cue : Cue) (t : TurnedOf)
-    → IsTurnOf (chart_named g s.state.chart) s.state cue t → IsTurn t
-    → (t.after.phase ≡ phase.Running → Fits (chart_named g s.state.chart) t.after) → stepped.state ≡ t.after
-    → FitsChart g s → FitsChart g stepped
-stepped-fits g s stepped cue t of is so e f =
-    let k = chart_named g s.state.chart in
-    let given = ap (λ (r : TurnResult). r.after) (turned-is k s.state cue t of is) in
-    let after : stepped.state ≡ (turn k s.state cue).after = e ∙ sym given in
-    let same : stepped.state.chart ≡ s.state.chart = ap (λ (b : SessionState). b.chart) after ∙ (turn-of k s.state cue).chart in
-    let past : IsPast stepped.state.phase = subst (λ (b : SessionState). IsPast b.phase) (sym after) (turn-past k s.state cue) in
-    record {
-      chart = ap (has_chart g) same ∙ f.chart;
-      fits = λ live. subst (λ name. Fits (chart_named g name) stepped.state) (sym same)
-          (subst (Fits k) (sym e) (so (sym (ap (λ (b : SessionState). b.phase) e) ∙ live-runs stepped.state.phase past live)));
-    }
+    is ∙ ap (turn t.chart t.before) of.2 ∙ ap (λ b. turn t.chart b cue) of.1 ∙ ap (λ c. turn c before cue) of.0
 
 -- the session at a place
 pub fits-at : (g : HostImage) (i : ℕ) (s : SessionImage) → All (FitsChart g) g.sessions → slice_get g.sessions i ≡ Some s → FitsChart g s

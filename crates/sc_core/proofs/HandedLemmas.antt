@@ -10,8 +10,8 @@ use Rattle.sc_types.specs.declared.session.SessionState.{SessionState}
 use Rattle.sc_fits.proofs.Fitting.{turn-leaves}
 use Rattle.sc_law.specs.Fitting.{Fits, HasCue}
 use Rattle.sc_law.specs.Legality.{legal_fault}
-use Rattle.sc_law.specs.Turn.{TurnResult}
-use Rattle.sc_law.specs.Turned.{IsTurn, IsTurnOf, TurnedOf}
+use Rattle.sc_law.specs.Turn.{TurnResult, turn}
+use Rattle.sc_law.specs.Turned.{IsTurnOf, TurnedOf}
 use Rattle.sc_core.specs.Bodies.{image}
 use Rattle.sc_core.specs.Cues.{cue_of}
 use Rattle.sc_core.specs.Holding.{IsHeld}
@@ -21,7 +21,7 @@ use Rattle.sc_core.specs.declared.body.Body.{Body}
 use Rattle.sc_core.specs.declared.body.InstalledChart.{InstalledChart}
 use Rattle.sc_core.specs.declared.inputs.TurnInput.{TurnInput}
 use Rattle.sc_core.specs.declared.session.Session.{Session}
-use Rattle.sc_core.proofs.FitLemmas.{fits-at, turned-is, waits-for}
+use Rattle.sc_core.proofs.FitLemmas.{fits-at, waits-for}
 use Rattle.sc_core.proofs.PlanLemmas.{only_there, plan_of_name, plan_seen, settled_state}
 
 -- a turn of the same cue, state and chart is that of the session
@@ -57,10 +57,10 @@ turns_at chart_of h place x cue held there cued =
     }
 
 -- the session that it leaves fits the chart, where it goes on
-pub handed_fits : (k : Chart) (s : SessionState) (cue : Cue) (t : TurnedOf) → Turns k s cue → IsTurnOf k s cue t → IsTurn t
-    → t.after.phase ≡ phase.Running → Fits k t.after
-handed_fits k s cue t can of is running =
-    let after = ap (λ (r : TurnResult). r.after) (turned-is k s cue t of is) in
+pub handed_fits : (k : Chart) (s : SessionState) (cue : Cue) (r : TurnResult) → Turns k s cue → r ≡ turn k s cue
+    → r.after.phase ≡ phase.Running → Fits k r.after
+handed_fits k s cue r can given running =
+    let after = ap (λ (x : TurnResult). x.after) (sym given) in
     subst (Fits k) after
     (turn-leaves k s cue can.legal can.fits can.waits (ap (λ (y : SessionState). y.phase) after ∙ running))
 

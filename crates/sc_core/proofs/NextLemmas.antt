@@ -14,35 +14,29 @@ use Rattle.sc_types.specs.declared.session.Phase.TheVariants as phase
 use Rattle.sc_types.specs.declared.value.Value.{Value}
 use Rattle.sc_law.specs.Fitting.{Fits}
 use Rattle.sc_law.specs.Turn.{TurnResult, turn}
-use Rattle.sc_law.specs.Turned.{IsTurn, IsTurnOf, TurnedOf}
 use Rattle.sc_core.specs.Commands.{Answer, answer, cancel, install, post, refused, start, step, step_cue, step_in, step_turn, tick}
 use Rattle.sc_core.specs.Cues.{cue_in, cue_of, name_of}
 use Rattle.sc_core.specs.Hosts.{chart_named, session_named}
 use Rattle.sc_core.specs.HostStates.{ArePlanned, CanMake, IsSound}
 use Rattle.sc_core.specs.Preparing.{FitsOn, Prepares, StepFits}
 use Rattle.sc_core.specs.declared.prepared.Prepared.{Prepared}
-use Rattle.sc_core.proofs.FitLemmas.{turned-is}
 use Rattle.sc_core.proofs.SoundLemmas.{sound_answer}
 use Rattle.sc_core.proofs.TurnLemmas.{turn-of}
 
 -- what an engine gave is the turn of the definition
-pub step_given : {P : Type 0} (g : HostImage) (place : ℕ) (s : SessionImage) (cue : Cue) (t : TurnedOf) (p : Prepared P)
-    → IsTurnOf (chart_named g s.state.chart) s.state cue t → IsTurn t
-    → Prepares (step_turn g place s cue (record { after = t.after; effects = t.effects; logs = t.logs })) g p
+pub step_given : {P : Type 0} (g : HostImage) (place : ℕ) (s : SessionImage) (cue : Cue) (given : TurnResult) (p : Prepared P)
+    → given ≡ turn (chart_named g s.state.chart) s.state cue
+    → Prepares (step_turn g place s cue given) g p
     → Prepares (step_turn g place s cue (turn (chart_named g s.state.chart) s.state cue)) g p
-step_given g place s cue t p of is prepared =
-    subst (λ (r : TurnResult). Prepares (step_turn g place s cue r) g p)
-    (sym (turned-is (chart_named g s.state.chart) s.state cue t of is)) prepared
+step_given g place s cue given p is prepared = subst (λ (r : TurnResult). Prepares (step_turn g place s cue r) g p) is prepared
 
 -- and what it says of a session that goes on holds of that turn
-pub fits_given : (g : HostImage) (s : SessionImage) (cue : Cue) (t : TurnedOf)
-    → IsTurnOf (chart_named g s.state.chart) s.state cue t → IsTurn t
-    → (t.after.phase ≡ phase.Running → Fits (chart_named g s.state.chart) t.after) → FitsOn g s cue
-fits_given g s cue t of is fits =
-    let same = turned-is (chart_named g s.state.chart) s.state cue t of is in
-    record {
-      fits = subst (λ (r : TurnResult). r.after.phase ≡ phase.Running → Fits (chart_named g s.state.chart) r.after) (sym same) fits;
-    }
+pub fits_given : (g : HostImage) (s : SessionImage) (cue : Cue) (given : TurnResult)
+    → given ≡ turn (chart_named g s.state.chart) s.state cue
+    → (given.after.phase ≡ phase.Running → Fits (chart_named g s.state.chart) given.after) → FitsOn g s cue
+fits_given g s cue given is fits = record {
+  fits = subst (λ (r : TurnResult). r.after.phase ≡ phase.Running → Fits (chart_named g s.state.chart) r.after) is fits;
+}
 
 -- a session with a cue takes its turn
 pub step_is : (g : HostImage) (place : ℕ) (s : SessionImage) (cue : Cue) → cue_of s ≡ Some cue
@@ -84,13 +78,12 @@ found_fits g name place s cue found cued fits session p t other is named waits =
     subst (λ (c : Cue). FitsOn g t c) (same_Some cue other cues) (subst (λ (x : SessionImage). FitsOn g x cue) parts.1 fits)
 
 -- a turn keeps the session's name
-pub turn_named : (g : HostImage) (place : ℕ) (s : SessionImage) (cue : Cue) (t : TurnedOf) → slice_get g.sessions place ≡ Some s
-    → IsTurnOf (chart_named g s.state.chart) s.state cue t → IsTurn t
-    → option_map (λ (x : SessionImage). x.state.session) (slice_get g.sessions place) ≡ Some t.after.session
-turn_named g place s cue t there of is =
-    let k = chart_named g s.state.chart in
-    let kept : t.after.session ≡ s.state.session =
-    sym (ap (λ (r : TurnResult). r.after.session) (turned-is k s.state cue t of is)) ∙ (turn-of k s.state cue).session in
+pub turn_named : (g : HostImage) (place : ℕ) (s : SessionImage) (cue : Cue) (given : TurnResult)
+    → slice_get g.sessions place ≡ Some s → given ≡ turn (chart_named g s.state.chart) s.state cue
+    → option_map (λ (x : SessionImage). x.state.session) (slice_get g.sessions place) ≡ Some given.after.session
+turn_named g place s cue given there is =
+    let kept : given.after.session ≡ s.state.session =
+    ap (λ (r : TurnResult). r.after.session) is ∙ (turn-of (chart_named g s.state.chart) s.state cue).session in
     ap (λ o. option_map (λ (x : SessionImage). x.state.session) o) there ∙ ap Some (sym kept)
 
 -- what is prepared of an equal answer

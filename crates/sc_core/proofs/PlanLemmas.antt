@@ -12,7 +12,7 @@ use Rattle.sc_types.specs.declared.session.Cue.{Cue}
 use Rattle.sc_law.specs.Fitting.{Fits, HasCue}
 use Rattle.sc_law.specs.LegalCharts.{legal_chart_of}
 use Rattle.sc_law.specs.Legality.{legal_fault}
-use Rattle.sc_law.specs.Turned.{IsTurnOf, TurnedOf}
+use Rattle.sc_law.specs.Turn.{TurnResult, turn}
 use Rattle.sc_types.specs.declared.session.SessionState.{SessionState}
 use Rattle.sc_core.specs.Bodies.{image, session_image}
 use Rattle.sc_core.specs.Cues.{cue_of}
@@ -148,14 +148,13 @@ pub only_there : (xs : List Session) (place : ℕ) (s : Session) (x : SessionIma
 only_there xs place s x at there = same_Some (session_image s) x (sym (image_at xs place s at) ∙ there)
 
 -- the turn of what the body holds is that of what contracts see
-pub turn_seen : {P : Type 0} (h : Body P) (place : ℕ) (s : Session) (cue : Cue) (k : Chart) (t : TurnedOf) (x : SessionImage)
+pub turn_seen : {P : Type 0} (h : Body P) (place : ℕ) (s : Session) (cue : Cue) (k : Chart) (r : TurnResult) (x : SessionImage)
     → slice_get h.sessions.items place ≡ Some s → slice_get (image h).sessions place ≡ Some x → IsTurning h s cue k
-    → IsTurnOf k s.state cue t → IsTurnOf (chart_named (image h) x.state.chart) x.state cue t
-turn_seen h place s cue k t x at there is turn =
-    subst (λ (y : SessionImage). IsTurnOf (chart_named (image h) y.state.chart) y.state cue t)
+    → r ≡ turn k s.state cue → r ≡ turn (chart_named (image h) x.state.chart) x.state cue
+turn_seen h place s cue k r x at there is given =
+    given ∙ ap (λ c. turn c s.state cue) is.chart ∙ ap (λ st. turn (chart_named (image h) s.state.chart) st cue) (sym is.state)
+    ∙ ap (λ (y : SessionImage). turn (chart_named (image h) y.state.chart) y.state cue)
     (only_there h.sessions.items place s x at there)
-    (subst (λ st. IsTurnOf (chart_named (image h) s.state.chart) st cue t) (sym is.state)
-    (subst (λ c. IsTurnOf c s.state cue t) is.chart turn))
 
 pub fits_seen : {P : Type 0} (h : Body P) (place : ℕ) (s : Session) (cue : Cue) (k : Chart) (after : SessionState) (x : SessionImage)
     → slice_get h.sessions.items place ≡ Some s → slice_get (image h).sessions place ≡ Some x → IsTurning h s cue k

@@ -71,7 +71,7 @@ pub enum Change<P> {
     },
     /// A send is pending.
     Delay {
-        send: TimerImage,
+        send: Boxed<TimerImage>,
     },
     /// The pending sends of a session and an id go.
     Undo {
@@ -116,7 +116,7 @@ impl<P: Drop> Body<P> {
             Change::CutOff { place } => self.cut_off(place),
             Change::DropInvoke { place, child } => self.drop_invoke(place, &child),
             Change::End { place } => self.end(place),
-            Change::Delay { send } => self.delay(send),
+            Change::Delay { send } => self.delay(send.into_inner()),
             Change::Undo { session, id } => self.undo(&session, &id),
             Change::Fire { place, invokeid } => self.fire(place, invokeid),
             Change::Lose => self.lose(),

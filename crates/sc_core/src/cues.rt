@@ -27,7 +27,7 @@ fn waiting_cue(session: &Session) -> Result<Option<Cue>, NoMemory>
     if session.state.internal.front().is_some() || session.failures.front().is_some() {
         return Ok(Some(Cue::Resume));
     }
-    let alloc = session.state.configuration.allocator();
+    let alloc = session.state.values.allocator();
     outer_cue(alloc, session.flagged, &session.queued)
 }
 

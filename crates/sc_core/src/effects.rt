@@ -18,7 +18,7 @@ use crate::draft::Draft;
 use crate::failures::communication_error;
 use crate::invocations::Invocation;
 use crate::session::{is_live, is_running};
-use sc_base::{NoMemory, Plain, SharedBytes, Word};
+use sc_base::{Boxed, NoMemory, Plain, SharedBytes, Word};
 use sc_types::{Delivery, Effect, Event, InvokerImage, Phase, SessionState, TimerImage, To};
 use std::alloc::Global;
 
@@ -40,6 +40,7 @@ fn count_after<P>(
 {
     match change {
         Change::Delay { send } => {
+            let send = send.get();
             if send.session.bytes() == session.bytes() && send.event.sendid.slice() == id.slice() {
                 return count.checked_add(1).ok_or(NoMemory);
             }
@@ -181,6 +182,7 @@ impl<P: Drop> Body<P> {
     /// Prepares that an event of the session at a place is pending until its delay is over.
     fn draft_delay(
         &self,
+        alloc: Global,
         draft: &mut Draft<P>,
         place: usize,
         after: &SessionState,
@@ -206,6 +208,7 @@ impl<P: Drop> Body<P> {
             event,
             to,
         };
+        let send = Boxed::new(alloc, send)?;
         draft.changes.push(Change::Delay { send })?;
         draft.delayed = number;
         Ok(Delivery::Timed { number, due })
@@ -280,7 +283,7 @@ impl<P: Drop> Body<P> {
                 delay: 0,
             } => self.draft_send(alloc, draft, place, after, &to, event),
             Effect::Send { event, to, delay } => {
-                self.draft_delay(draft, place, after, to, event, delay)
+                self.draft_delay(alloc, draft, place, after, to, event, delay)
             }
             Effect::CancelSend { sendid } => self.draft_undo(draft, place, after, sendid),
             Effect::Invoke {

@@ -1,5 +1,6 @@
 ghost use Rattle.std.specs.Prelude.{◌≡◌, ◌^◌, ◌≤◌, ◌<◌, [], IfOk, IsTrue, Some, length, option_map, slice_get};
 ghost use Rattle.sc_law.specs.Fitting.{Fits};
+ghost use Rattle.sc_law.specs.Turn.{turn};
 ghost use Rattle.sc_law.specs.Turned.{IsTurnOf};
 ghost use Rattle.sc_core.specs.Bodies.{image};
 ghost use Rattle.sc_core.specs.Commands.{answer};
@@ -20,7 +21,7 @@ use crate::prepared::Prepared;
 use crate::same_charts::same_chart;
 use crate::sameness::Same;
 use sc_base::{NoMemory, Word};
-use sc_law::{Engine, Turned};
+use sc_law::{Engine, TurnResult, Turned};
 use sc_types::{Chart, Cue, Phase, SessionState};
 use std::alloc::Global;
 
@@ -52,7 +53,7 @@ fn is_turn_of<E: Engine>(body: &Body<E::Plan>, place: usize, cue: &Cue, turned: 
     }
 }
 
-/// The turn of the session at a place, as `turn_of` computes it: the one that was handed in, where it is that turn.
+/// What the turn gives of the session at a place, as `turn_of` computes it: what was handed in, where it is that turn.
 pub(crate) fn turn_by<E: Engine>(
     alloc: Global,
     e: &E,
@@ -60,22 +61,20 @@ pub(crate) fn turn_by<E: Engine>(
     place: usize,
     cue: &Cue,
     handed: Option<Turned>,
-) -> Result<Turned, NoMemory>
+) -> Result<TurnResult, NoMemory>
     requires held { IsHeld E.chart_of body.now }
     requires within { place < length body.now.sessions.items }
     requires settled { option_map (λ (s : Session). s.failures.items) (slice_get body.now.sessions.items place)
         ≡ Some [] }
     requires cue { (s : SessionImage) → slice_get (image body.now).sessions place ≡ Some s → cue_of s ≡ Some cue.now }
-    ensures turn { IfOk result (λ t. (s : SessionImage) → slice_get (image body.now).sessions place ≡ Some s
-        → IsTurnOf (chart_named (image body.now) s.state.chart) s.state cue.now t) }
-    ensures fits { IfOk result (λ t. (s : SessionImage) → slice_get (image body.now).sessions place ≡ Some s
-        → t.after.phase ≡ Phase.Running → Fits (chart_named (image body.now) s.state.chart) t.after) }
+    ensures turn { IfOk result (λ r. (s : SessionImage) → slice_get (image body.now).sessions place ≡ Some s
+        → r ≡ turn (chart_named (image body.now) s.state.chart) s.state cue.now) }
+    ensures fits { IfOk result (λ r. (s : SessionImage) → slice_get (image body.now).sessions place ≡ Some s
+        → r.after.phase ≡ Phase.Running → Fits (chart_named (image body.now) s.state.chart) r.after) }
 {
     if let Some(turned) = handed {
-        // A turn's type keeps that it is the turn of its chart.
-        let _chart = turned.chart();
         if is_turn_of::<E>(body, place, cue, &turned) {
-            return Ok(turned);
+            return Ok(turned.into_given());
         }
     }
     turn_of(alloc, e, body, place, cue)

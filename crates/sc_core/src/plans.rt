@@ -2,7 +2,7 @@ ghost use Rattle.std.specs.Prelude.{◌≡◌, ◌<◌, [], IfOk, Some, length, 
 ghost use Rattle.std.specs.Arc.{arc_value};
 ghost use Rattle.std.specs.Option.{option_copied};
 ghost use Rattle.sc_law.specs.Fitting.{Fits};
-ghost use Rattle.sc_law.specs.Turned.{IsTurnOf};
+ghost use Rattle.sc_law.specs.Turn.{turn};
 ghost use Rattle.sc_core.specs.Bodies.{Agrees, image};
 ghost use Rattle.sc_core.specs.Cues.{cue_of};
 ghost use Rattle.sc_core.specs.Holding.{IsHeld};
@@ -12,7 +12,7 @@ ghost use Rattle.sc_types.specs.declared.host.SessionImage.{SessionImage};
 
 use crate::body::{Body, InstalledChart};
 use sc_base::{NoMemory, Word};
-use sc_law::{Engine, Turned};
+use sc_law::{Engine, TurnResult};
 use sc_types::{Cue, Phase};
 use std::alloc::Global;
 
@@ -46,22 +46,22 @@ pub(crate) fn chart_at<E: Engine>(body: &Body<E::Plan>, place: usize) -> &Instal
     chart
 }
 
-/// The turn of the session at a place, whose internal queue is in one part.
+/// What the turn gives of the session at a place, whose internal queue is in one part.
 pub(crate) fn turn_of<E: Engine>(
     alloc: Global,
     e: &E,
     body: &Body<E::Plan>,
     place: usize,
     cue: &Cue,
-) -> Result<Turned, NoMemory>
+) -> Result<TurnResult, NoMemory>
     requires held { IsHeld E.chart_of body.now }
     requires settled { option_map (λ (s : Session). s.failures.items) (slice_get body.now.sessions.items place)
         ≡ Some [] }
     requires cue { (s : SessionImage) → slice_get (image body.now).sessions place ≡ Some s → cue_of s ≡ Some cue.now }
-    ensures turn { IfOk result (λ t. (s : SessionImage) → slice_get (image body.now).sessions place ≡ Some s
-        → IsTurnOf (chart_named (image body.now) s.state.chart) s.state cue.now t) }
-    ensures fits { IfOk result (λ t. (s : SessionImage) → slice_get (image body.now).sessions place ≡ Some s
-        → t.after.phase ≡ Phase.Running → Fits (chart_named (image body.now) s.state.chart) t.after) }
+    ensures turn { IfOk result (λ r. (s : SessionImage) → slice_get (image body.now).sessions place ≡ Some s
+        → r ≡ turn (chart_named (image body.now) s.state.chart) s.state cue.now) }
+    ensures fits { IfOk result (λ r. (s : SessionImage) → slice_get (image body.now).sessions place ≡ Some s
+        → r.after.phase ≡ Phase.Running → Fits (chart_named (image body.now) s.state.chart) r.after) }
 {
     let Some(session) = body.sessions.get(place) else {
         unreachable!();
@@ -69,5 +69,5 @@ pub(crate) fn turn_of<E: Engine>(
     let Some(chart) = body.chart_named(&session.state.chart) else {
         unreachable!();
     };
-    e.turn(alloc, &chart.plan, &session.state, cue)
+    e.give(alloc, &chart.plan, &session.state, cue)
 }

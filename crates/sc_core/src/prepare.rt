@@ -66,10 +66,8 @@ fn draft_turn<E: Engine>(
         → FitsOn (image body.old) s cue.now) }
 {
     body.settle(place)?;
-    let turned = turn_by(alloc, e, body, place, cue, handed)?;
-    // A turn's type keeps that it is the turn of its chart.
-    let _chart = turned.chart();
-    body.draft_turn(alloc, place, cue, turned)
+    let given = turn_by(alloc, e, body, place, cue, handed)?;
+    body.draft_turn(alloc, place, cue, given)
 }
 
 /// Prepares that a session takes the turn of its cue, which may have been computed before.

@@ -2,6 +2,7 @@ ghost use Rattle.std.specs.Prelude.{◌≡◌, ◌↔◌, IsTrue};
 ghost use Rattle.std.specs.Option.{option_copied};
 
 use sc_base::{Bytes, PlainName, Queue, Sequence, Shared};
+use sc_types::ShortList;
 
 /// What can be seen to be the same.
 pub(crate) trait Same {
@@ -36,6 +37,12 @@ fn both_same<T: Same>(a: Option<&T>, b: Option<&T>) -> bool
 }
 
 impl<T: Same> Same for Sequence<T> {
+    fn same(&self, other: &Self) -> bool {
+        all_same(self.slice(), other.slice())
+    }
+}
+
+impl Same for ShortList {
     fn same(&self, other: &Self) -> bool {
         all_same(self.slice(), other.slice())
     }

@@ -15,7 +15,9 @@ use crate::session::Session;
 use sc_base::{Boxed, Bytes, NoMemory, Plain, Queue, Sequence, Word};
 use sc_law::Engine;
 use sc_rooms::RoomyQueue;
-use sc_types::{ChartRefusal, NAME_LIMIT, PairList, Phase, Refusal, Reply, SessionState};
+use sc_types::{
+    ChartRefusal, NAME_LIMIT, PairList, Phase, Refusal, Reply, SessionState, ShortList,
+};
 use sc_valid::LegalChart;
 use std::alloc::Global;
 
@@ -134,9 +136,9 @@ pub(crate) fn fresh_state(
         session: session.copy()?,
         chart: chart.copy()?,
         phase: Phase::Fresh,
-        configuration: Sequence::new(alloc),
+        configuration: ShortList::new(alloc),
         values: Sequence::new(alloc),
-        entered: Sequence::new(alloc),
+        entered: ShortList::new(alloc),
         histories: Sequence::new(alloc),
         internal: Queue::new(alloc),
         invokes: Sequence::new(alloc),

@@ -15,7 +15,7 @@ use crate::draft::Draft;
 use crate::newborns::with_rooms;
 use crate::prepared::Prepared;
 use sc_base::{Boxed, BoxedSequence, NoMemory, Queue, Sequence};
-use sc_law::Turned;
+use sc_law::TurnResult;
 use sc_types::{Cue, Effect, Reply, SessionState};
 use std::alloc::Global;
 
@@ -77,13 +77,13 @@ impl<P: Drop> Body<P> {
         Ok(draft)
     }
 
-    /// Prepares the step of the session at a place, which has this cue and takes this turn.
+    /// Prepares the step of the session at a place, which has this cue and whose turn gives this.
     pub(crate) fn draft_turn(
         &self,
         alloc: Global,
         place: usize,
         cue: &Cue,
-        turned: Turned,
+        given: TurnResult,
     ) -> Result<Prepared<P>, NoMemory>
         requires agrees { Agrees self.now }
         requires commands { self.now.commands + 1 < 2 ^ 64 }
@@ -91,13 +91,12 @@ impl<P: Drop> Body<P> {
         requires numbers { AreNumbered (image self.now) }
         requires within { place < length self.now.sessions.items }
         requires there { option_map (λ (s : SessionImage). s.state.session) (slice_get (image self.now).sessions place)
-            ≡ Some turned.after.session }
+            ≡ Some given.after.session }
         ensures step { IfOk result (λ p. (s : SessionImage) → slice_get (image self.now).sessions place ≡ Some s
-            → Prepares (step_turn (image self.now) place s cue.now
-            (record { after = turned.after; effects = turned.effects; logs = turned.logs })) (image self.now) p) }
+            → Prepares (step_turn (image self.now) place s cue.now given) (image self.now) p) }
         ensures none { IfOk result (λ p. InstallNone p.changes) }
     {
-        let (after, effects, logs) = turned.into_parts();
+        let (after, effects, logs) = given.into_parts();
         // A length fits a usize, so the numbers of events cannot run out.
         let _count = effects.len();
         let mut draft = self.draft_effects(alloc, place, after.get(), effects)?;

@@ -1,9 +1,11 @@
 -- Rows that have names: where the first row of a name stands, and what putting a value there does.
-use Rattle.std.proofs.Common.{◌≡◌, ℕ, zero, suc, ◌<◌, Bool, false, true, cond, List, ◌∷◌, [], ◌++◌, length, map, take, set, get_or, Option, Some, None, option_map, is_some, find, ap, refl, arith, sym, ◌∙◌, ◌||◌, subst}
+use Rattle.std.proofs.Common.{◌≡◌, ℕ, zero, suc, ◌+◌, ◌<◌, nat_lt, not, Bool, false, true, cond, List, ◌∷◌, [], ◌++◌, length, map, take, set, get_or, Option, Some, None, option_map, is_some, find, ap, refl, arith, sym, ◌∙◌, ◌||◌, subst}
 use Rattle.std.specs.Cmp.Lexicographic.{bytes_decides, nat_list_eq_equiv}
-use Rattle.std.specs.List.{IsDistinct, AllByRecursion, list_any}
+use Rattle.std.specs.List.{IsDistinct, AllByRecursion, list_any, position, position_or_len}
 use Rattle.std.specs.Option.{option_or}
 use Rattle.std.specs.Str.{bytes_eq}
+use Rattle.std.proofs.lemmas.Bool.{lt-ltb, ltb-true}
+use Rattle.std.proofs.lemmas.Grind.{common_steps}
 use Rattle.std.proofs.lemmas.Map.Keys.{IsDistinct-head, IsDistinct-tail, IsDistinct-push}
 use Rattle.sc_types.specs.declared.value.Value.{Value}
 use Rattle.sc_law.specs.Data.{put_pair}
@@ -11,7 +13,29 @@ use Rattle.sc_law.specs.Evaluation.{is_pair_named}
 use Rattle.sc_eval.specs.Envs.{AreWithin}
 use Rattle.sc_eval.specs.Places.{first_place, names_of}
 
+first_more : (b : Bool) (n long : ℕ) (o : Option ℕ) → cond (nat_lt n long) (Some n) None ≡ o
+    → cond (nat_lt (cond (not b) (1 + n) 0) (suc long)) (Some (cond (not b) (1 + n) 0)) None
+    ≡ cond b (Some 0) (option_map (λ place. suc place) o)
+first_more true n long o e = ap (λ b. cond b (Some 0) None) (lt-ltb 0 (suc long) (omega arith))
+first_more false n long o e = by (nat_lt n long) refl e where
+  by : (less : Bool) → nat_lt n long ≡ less → cond less (Some n) None ≡ o
+      → cond (nat_lt (1 + n) (suc long)) (Some (1 + n)) None ≡ option_map (λ place. suc place) o
+  by true is e =
+      let below = ltb-true n long is in
+      let more : 1 + n ≡ suc n = omega arith in
+      ap (λ b. cond b (Some (1 + n)) None) (lt-ltb (1 + n) (suc long) (omega arith))
+      ∙ ap Some more ∙ ap (λ p. option_map (λ place. suc place) p) e
+  by false is e = grind (arith, common_steps)
+
 module _ {A : Type 0} where
+  -- a search from the front finds the place of a name
+  pub place_found : (name : List ℕ) (rows : List (List ℕ × A))
+      → position (λ (row : List ℕ × A). bytes_eq row.0 name) rows ≡ first_place name rows
+  place_found name [] = refl
+  place_found name (r ∷ rs) =
+      first_more (bytes_eq r.0 name) (position_or_len (λ (row : List ℕ × A). bytes_eq row.0 name) rs) (length rs)
+      (first_place name rs) (place_found name rs)
+
   -- a name has a place exactly where some row has it
   pub is_some-first_place : (name : List ℕ) (rows : List (List ℕ × A))
       → is_some (first_place name rows) ≡ list_any (is_pair_named name) rows
@@ -163,6 +187,12 @@ pub names-put : (name : List ℕ) (v : Option Value) (rows : List (List ℕ × O
     → names_of (map (put_pair name v) rows) ≡ names_of rows
 names-put name v [] = refl
 names-put name v (r ∷ rs) = ap (λ names. r.0 ∷ names) (names-put name v rs)
+
+-- and their count
+pub put_long : (name : List ℕ) (v : Option Value) (rows : List (List ℕ × Option Value))
+    → length (map (put_pair name v) rows) ≡ length rows
+put_long name v [] = refl
+put_long name v (r ∷ rs) = ap (λ n. suc n) (put_long name v rs)
 
 -- and the places
 pub first_place-put : (other name : List ℕ) (v : Option Value) (rows : List (List ℕ × Option Value))

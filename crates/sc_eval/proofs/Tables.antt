@@ -1,5 +1,5 @@
 -- A table of places after a name was put into it.
-use Rattle.std.proofs.Common.{◌≡◌, ℕ, Bool, true, false, cond, Option, Some, None, List, refl, sym, ap, ◌∙◌, is_some, length, ◌∷◌, ◌++◌, [], rules}
+use Rattle.std.proofs.Common.{◌≡◌, ℕ, Bool, true, false, cond, Option, Some, None, List, refl, sym, ap, subst, ◌∙◌, ◌<◌, map, is_some, length, ◌∷◌, ◌++◌, [], rules}
 use Rattle.std.specs.BTreeMap.{UpdatesBy}
 use Rattle.std.specs.Cmp.{eq_by_cmp_equiv}
 use Rattle.std.specs.Cmp.Lexicographic.{slice_cmp, bytes_decides, nat_list_cmp_total, nat_list_eq_equiv}
@@ -8,9 +8,12 @@ use Rattle.std.specs.Option.{option_or}
 use Rattle.std.specs.Ordering.{is_eq, nat_cmp}
 use Rattle.std.specs.Str.{bytes_eq}
 use Rattle.std.proofs.lemmas.Map.Text.{is_eq-slice_cmp}
-use Rattle.sc_eval.specs.Places.{place_of, first_place, IsPut, IsIndex}
+use Rattle.sc_types.specs.declared.value.Value.{Value}
+use Rattle.sc_law.specs.Data.{put_pair}
+use Rattle.sc_eval.specs.Places.{place_of, first_place, IsPut, IsIndex, IsIndexed}
+use Rattle.sc_eval.specs.declared.index.TheConstants.{FEW_ROWS}
 use Rattle.sc_eval.specs.declared.places.Places.{Places}
-use Rattle.sc_eval.proofs.Rows.{first_place-push}
+use Rattle.sc_eval.proofs.Rows.{first_place-push, first_place-put, put_long}
 
 apart : (id other key : List ℕ) → bytes_eq id other ≡ false → is_eq (slice_cmp nat_cmp id key) ≡ true → is_eq (slice_cmp nat_cmp other key) ≡ false
 apart id other key n y =
@@ -67,3 +70,10 @@ module _ {A : Type 0} where
         ∙ ap (λ n. option_or (first_place other rows) (cond (bytes_eq n other) (Some place) None)) (sym named)
         ∙ ap (λ n. option_or (first_place other rows) (cond (bytes_eq row.0 other) (Some n) None)) there
         ∙ sym (first_place-push other rows row)
+
+-- a value in the place of another
+pub indexed-put : (p : Places) (name : List ℕ) (v : Option Value) (rows : List (List ℕ × Option Value))
+    → IsIndexed p rows → IsIndexed p (map (put_pair name v) rows)
+indexed-put p name v rows indexed many =
+    let index = indexed (subst (λ n. FEW_ROWS < n) (put_long name v rows) many) in
+    record { finds = λ other. index.finds other ∙ sym (first_place-put other name v rows) }

@@ -1,10 +1,11 @@
--- The places of rows that have names. Only contracts of private functions cite `place_of`, `IsPut` and `IsIndex`.
-use Rattle.std.specs.Prelude.{◌≡◌, List, [], ◌∷◌, None, Option, Some, suc, if◌then◌else◌, map, option_map, ℕ}
+-- The places of rows that have names. Only contracts of private functions cite what stands below `names_of`.
+use Rattle.std.specs.Prelude.{◌≡◌, ◌<◌, length, List, [], ◌∷◌, None, Option, Some, suc, if◌then◌else◌, map, option_map, ℕ}
 use Rattle.std.specs.BTreeMap.{get_by}
 use Rattle.std.specs.Cmp.Lexicographic.{slice_cmp}
 use Rattle.std.specs.Option.{option_or}
 use Rattle.std.specs.Ordering.{nat_cmp}
 use Rattle.std.specs.Str.{bytes_eq}
+use Rattle.sc_eval.specs.declared.index.TheConstants.{FEW_ROWS}
 use Rattle.sc_eval.specs.declared.places.Places.{Places}
 
 -- the names of rows
@@ -28,3 +29,7 @@ pub record IsPut (old : Places) (name : List ℕ) (place : ℕ) (new : Places) :
 -- each name has the place of its first row
 pub record IsIndex {A : Type 0} (p : Places) (rows : List (List ℕ × A)) : Type 0 where
   pub finds : (name : List ℕ) → place_of p name ≡ first_place name rows
+
+-- so has each name where there are more than a few rows
+abbrev pub IsIndexed : {A : Type 0} → Places → List (List ℕ × A) → Type 0
+IsIndexed p rows = FEW_ROWS < length rows → IsIndex p rows

@@ -4,8 +4,9 @@ ghost use Rattle.std.specs.Option.{option_copied};
 ghost use Rattle.std.specs.Str.{bytes_eq};
 ghost use Rattle.sc_law.specs.Evaluation.{is_pair_named};
 ghost use Rattle.sc_law.specs.Data.{put_pair};
-ghost use Rattle.sc_eval.specs.Places.{names_of, IsIndex};
+ghost use Rattle.sc_eval.specs.Places.{first_place, names_of};
 
+use crate::index::{FEW_ROWS, note_place, place_in, places_of};
 use crate::places::{Places, push_reserved};
 use sc_base::{NoMemory, PlainName, Sequence};
 use sc_types::{Value, Values};
@@ -16,6 +17,7 @@ use std::marker::Model;
 #[derive(Drop)]
 pub struct DataTable {
     rows: Vec<(PlainName, Option<Value>)>,
+    /// The places of the rows, where there are more than a few.
     places: Places,
 }
 
@@ -31,11 +33,11 @@ impl Model for DataTable {
 
     ghost use Rattle.std.specs.List.{IsDistinct};
     ghost use Rattle.std.specs.Str.{bytes_eq};
-    ghost use Rattle.sc_eval.specs.Places.{IsIndex, names_of};
+    ghost use Rattle.sc_eval.specs.Places.{IsIndexed, names_of};
 
     ghost view = { λ d. d.rows.items };
 
-    ghost invariant = { λ d. IsIndex d.places d.rows.items × IsDistinct bytes_eq (names_of d.rows.items) };
+    ghost invariant = { λ d. IsIndexed d.places d.rows.items × IsDistinct bytes_eq (names_of d.rows.items) };
 }
 
 impl DataTable {
@@ -73,26 +75,37 @@ impl DataTable {
         self.rows.as_slice()
     }
 
+    /// The place of the row of a name.
+    fn find(&self, name: &[u8]) -> Option<usize>
+        ensures { result ≡ first_place name.now self.now }
+    {
+        if self.rows.len() <= FEW_ROWS {
+            place_in(self.rows.as_slice(), name)
+        } else {
+            self.places.find(name)
+        }
+    }
+
     /// The value of a datum, where it is declared and set.
     pub fn get(&self, name: &[u8]) -> Option<&Value>
         ensures { option_copied result
             ≡ option_and_then (λ pair. pair.1) (find (is_pair_named name.now) self.now) }
     {
-        let place = self.places.find(name)?;
+        let place = self.find(name)?;
         self.rows[place].1.as_ref()
     }
 
     pub fn is_declared(&self, name: &[u8]) -> bool
         ensures { result ≡ list_any (is_pair_named name.now) self.now }
     {
-        self.places.find(name).is_some()
+        self.find(name).is_some()
     }
 
     /// Sets or unsets the datum of a name, where it is declared.
     pub fn put(&mut self, name: &[u8], value: Option<Value>)
         ensures { self.new ≡ map (put_pair name.now value) self.old }
     {
-        let Some(place) = self.places.find(name) else {
+        let Some(place) = self.find(name) else {
             return;
         };
         put_value(&mut self.rows[place], value);
@@ -105,7 +118,7 @@ impl DataTable {
         ensures err { OnErr result (self.new ≡ self.old) }
     {
         self.rows.reserve(1)?;
-        self.places.put(name.bytes(), self.rows.len())?;
+        note_place(&mut self.places, self.rows.as_slice(), name.bytes())?;
         push_reserved(&mut self.rows, (name, None));
         Ok(())
     }
@@ -115,14 +128,4 @@ fn put_value(row: &mut (PlainName, Option<Value>), value: Option<Value>)
     ensures { row.new ≡ (row.old.0, value) }
 {
     row.1 = value;
-}
-
-fn places_of(alloc: Global, rows: &[(PlainName, Option<Value>)]) -> Result<Places, NoMemory>
-    ensures { IfOk result (λ places. IsIndex places rows.now) }
-{
-    let mut places = Places::new(alloc);
-    for place in 0..rows.len() {
-        places.put(rows[place].0.bytes(), place)?;
-    }
-    Ok(places)
 }

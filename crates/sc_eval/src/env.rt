@@ -7,7 +7,7 @@ ghost use Rattle.sc_eval.specs.Envs.{env_of};
 
 use crate::data_table::DataTable;
 use crate::ids::Ids;
-use sc_base::{Bytes, NoMemory, Plain, PlainName, Shared, Word};
+use sc_base::{NoMemory, Plain, PlainName, Shared, SharedBytes, Word};
 use sc_bits::Row;
 use sc_types::{EvalFault, Event, Value};
 use std::sync::Arc;
@@ -25,7 +25,7 @@ pub struct Env {
     /// `_sessionid`; at most 1,024 bytes.
     pub session: Word,
     /// `_name`; such as a text of the data model may be.
-    pub chart_name: Bytes,
+    pub chart_name: SharedBytes,
 }
 
 fn is_reserved(name: &[u8]) -> bool

@@ -1,7 +1,7 @@
 //! Values of expressions: what an expression reads, and what it comes to, with each fault exact.
 //!
-//! The data and the ids of states are lists to contracts. They are looked up through an index, so that a look-up by
-//! name takes time in proportion to the logarithm of their number.
+//! The data and the ids of states are lists to contracts. But for few data they are looked up through an index, so that
+//! a look-up by name takes time in proportion to the logarithm of their number.
 #![tactic(auto)]
 
 mod arithmetic;
@@ -10,6 +10,7 @@ mod env;
 mod equality;
 mod evaluation;
 mod ids;
+mod index;
 mod lists;
 mod names;
 mod operators;

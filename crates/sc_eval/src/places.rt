@@ -22,6 +22,11 @@ impl Places {
         }
     }
 
+    /// Where the memory of the names comes from.
+    pub(crate) fn allocator(&self) -> Global {
+        self.alloc
+    }
+
     pub(crate) fn find(&self, name: &[u8]) -> Option<usize>
         ensures { result ≡ place_of self.now name.now }
     {

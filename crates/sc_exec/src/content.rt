@@ -1,4 +1,4 @@
-ghost use Rattle.std.specs.Prelude.{◌≡◌, ◌≤◌, ◌<◌, ◌^◌, OnOk, Some, length, map, pos, slice_range};
+ghost use Rattle.std.specs.Prelude.{◌≡◌, ◌≢◌, ◌≤◌, ◌<◌, ◌^◌, Err, OnOk, Some, length, map, pos, slice_range};
 ghost use Rattle.sc_types.specs.Attributes.{members_of};
 ghost use Rattle.sc_types.specs.declared.attribute.Attribute.TheVariants as attribute;
 ghost use Rattle.sc_types.specs.declared.value.Value.TheVariants.{Int};
@@ -185,6 +185,7 @@ fn set_names(
         (on_done (with_name (λ name. write name (Int (pos place))) attribute.Index (members_of node.now))
         (with_name (λ name. write name item) attribute.Item (members_of node.now) (running_of run.old))) }
     ensures kept { KeepsRows run.old run.new }
+    ensures no_memory { result ≢ Err Failure.NoMemory }
 {
     write_given(run, node, Attribute::Item, item)?;
     write_given(run, node, Attribute::Index, Value::Int(place as i64))
@@ -216,6 +217,7 @@ fn write_given(
     ensures outcome { Does result run.new
         (with_name (λ name. write name value) attribute (members_of node.now) (running_of run.old)) }
     ensures kept { KeepsRows run.old run.new }
+    ensures no_memory { result ≢ Err Failure.NoMemory }
 {
     match node.text(attribute) {
         Some(name) => write(run, name, value),

@@ -7,7 +7,7 @@ ghost use Rattle.sc_exec.specs.Runs.{running_of, KeepsRows};
 
 use crate::running::Running;
 use sc_base::{Name, NoMemory, SharedBytes};
-use sc_types::{Data, Event, Kind, Unfit};
+use sc_types::{Data, Event, Kind};
 use std::alloc::Global;
 
 /// The name of an event. A text that no event can have as its name is answered as being out of memory; no chart that

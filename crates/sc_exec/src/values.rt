@@ -1,4 +1,4 @@
-ghost use Rattle.std.specs.Prelude.{◌≡◌, [], IfOk};
+ghost use Rattle.std.specs.Prelude.{◌≡◌, ◌≢◌, [], Err, IfOk};
 ghost use Rattle.std.specs.Result.{result_ok};
 ghost use Rattle.sc_law.specs.Evaluation.{value};
 ghost use Rattle.sc_types.specs.Attributes.{members_of};
@@ -71,6 +71,7 @@ pub(crate) fn write(
 ) -> Result<(), Failure<SharedBytes>>
     ensures outcome { Does result run.new (write name.now value (running_of run.old)) }
     ensures kept { KeepsRows run.old run.new }
+    ensures no_memory { result ≢ Err Failure.NoMemory }
 {
     match run.env.set_named(name, value) {
         Ok(()) => Ok(()),

@@ -2,7 +2,7 @@ ghost use Rattle.std.specs.Prelude.{◌<◌, ℕ, IfOk};
 ghost use Rattle.std.specs.Arc.{arc_value};
 ghost use Rattle.sc_eval.specs.Envs.{AreWithin, HasIds};
 
-use sc_base::{Bytes, NoMemory, Queue, Sequence, SharedBytes, Word};
+use sc_base::{NoMemory, Queue, Sequence, SharedBytes, Word};
 use sc_bits::Row;
 use sc_eval::{DataTable, Env, Ids};
 use sc_exec::{Running, first_data};
@@ -53,7 +53,7 @@ fn new_env(alloc: Global, chart: &Chart) -> Result<Env, NoMemory>
         ids,
         bound: None,
         session,
-        chart_name: Bytes::new(alloc),
+        chart_name: SharedBytes::empty(),
     })
 }
 

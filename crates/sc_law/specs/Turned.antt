@@ -1,35 +1,24 @@
--- A turn with what it gave. This host's own rule.
-use Rattle.std.specs.Prelude.{List, ◌≡◌}
+-- A turn with what it gave, and what it was computed of. This host's own rule.
+use Rattle.std.specs.Prelude.{◌≡◌}
 use Rattle.sc_types.specs.declared.chart.Chart.{Chart}
-use Rattle.sc_types.specs.declared.effect.Effect.{Effect}
-use Rattle.sc_types.specs.declared.history.LogLine.{LogLine}
 use Rattle.sc_types.specs.declared.session.Cue.{Cue}
 use Rattle.sc_types.specs.declared.session.SessionState.{SessionState}
 use Rattle.std.specs.Arc.{arc_value}
-use Rattle.sc_law.specs.Turn.{turn}
+use Rattle.sc_law.specs.Turn.{TurnResult, turn}
 use Rattle.sc_law.specs.declared.turned.Turned.TheInside.{Inside}
 
 pub record TurnedOf : Type 0 where
   pub chart : Chart
   pub before : SessionState
   pub cue : Cue
-  pub after : SessionState
-  pub effects : List Effect
-  pub logs : List LogLine
+  pub given : TurnResult
 
 abbrev pub turned : Inside → TurnedOf
-turned t = record {
-  chart = arc_value t.chart;
-  before = t.before;
-  cue = t.cue;
-  after = t.after;
-  effects = t.effects;
-  logs = t.logs;
-}
+turned t = record { chart = arc_value t.chart; before = t.before; cue = t.cue; given = t.given }
 
 -- what it gave is what the turn gives
 abbrev pub IsTurn : TurnedOf → Type 0
-IsTurn t = turn t.chart t.before t.cue ≡ record { after = t.after; effects = t.effects; logs = t.logs }
+IsTurn t = t.given ≡ turn t.chart t.before t.cue
 
 -- a turn of this chart, from this session and for this cue
 abbrev pub IsTurnOf : Chart → SessionState → Cue → TurnedOf → Type 0

@@ -4,8 +4,10 @@ ghost use Rattle.sc_types.specs.declared.chart.Chart.{Chart};
 ghost use Rattle.sc_types.specs.declared.session.Phase.TheVariants as phase;
 ghost use Rattle.sc_law.specs.Legality.{legal_fault};
 ghost use Rattle.sc_law.specs.Fitting.{Fits, HasCue};
+ghost use Rattle.sc_law.specs.Turn.{turn};
 ghost use Rattle.sc_law.specs.Turned.{IsTurnOf};
 
+use crate::turn_result::TurnResult;
 use crate::turned::Turned;
 use sc_types::{Chart, Cue, NoMemory, SessionState};
 use std::alloc::Global;
@@ -24,8 +26,22 @@ pub trait Engine: Sync {
         requires legal { legal_fault (arc_value chart.now) ≡ None }
         ensures { IfOk result (λ plan. chart_of plan ≡ arc_value chart.now) };
 
-    /// The turn that a session's cue asks for, computed from these three alone. A session that goes on running fits the
-    /// chart again, so that its configuration is a legal one.
+    /// What the turn gives that a session's cue asks for, computed from these three alone. A session that goes on
+    /// running fits the chart again, so that its configuration is a legal one.
+    fn give(
+        &self,
+        alloc: Global,
+        plan: &Self::Plan,
+        before: &SessionState,
+        cue: &Cue,
+    ) -> Result<TurnResult, NoMemory>
+        requires legal { legal_fault (chart_of plan.now) ≡ None }
+        requires fits { Fits (chart_of plan.now) before.now }
+        requires cue { HasCue before.now cue.now }
+        ensures given { IfOk result (λ r. r ≡ turn (chart_of plan.now) before.now cue.now) }
+        ensures fits { IfOk result (λ r. r.after.phase ≡ phase.Running → Fits (chart_of plan.now) r.after) };
+
+    /// The same turn with a copy of what it was computed of, for whoever puts it in later.
     fn turn(
         &self,
         alloc: Global,
@@ -37,5 +53,6 @@ pub trait Engine: Sync {
         requires fits { Fits (chart_of plan.now) before.now }
         requires cue { HasCue before.now cue.now }
         ensures turn { IfOk result (IsTurnOf (chart_of plan.now) before.now cue.now) }
-        ensures fits { IfOk result (λ t. t.after.phase ≡ phase.Running → Fits (chart_of plan.now) t.after) };
+        ensures fits { IfOk result (λ t.
+            t.given.after.phase ≡ phase.Running → Fits (chart_of plan.now) t.given.after) };
 }

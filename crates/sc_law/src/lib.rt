@@ -5,9 +5,11 @@
 mod defaults;
 mod engine;
 mod tree;
+mod turn_result;
 mod turned;
 
 pub use defaults::default_ids;
 pub use engine::Engine;
 pub use tree::{Path, element, element_paths, has_states, is_atomic_element, leads_on, node_at};
+pub use turn_result::TurnResult;
 pub use turned::Turned;

@@ -32,25 +32,22 @@ pub fn element_paths(alloc: Global, chart: &Chart) -> Result<Sequence<Path>, NoM
     ensures { IfOk result (λ p. p ≡ elements chart.now) }
 {
     let mut paths = Sequence::new(alloc);
-    add_paths(alloc, &mut paths, &chart.root, &Sequence::new(alloc))?;
+    let mut path = Sequence::new(alloc);
+    add_paths(&mut paths, &chart.root, &mut path)?;
     Ok(paths)
 }
 
-/// Adds the path of an element, and those of the elements below it.
+/// Adds the path of an element, which is the one that is walked, and those of the elements below it.
 #[cycle(paths)]
-fn add_paths(
-    alloc: Global,
-    out: &mut Sequence<Path>,
-    node: &Node,
-    path: &Path,
-) -> Result<(), NoMemory>
-    ensures { OnOk result (out.new ≡ out.old ++ elements_from node.now path.now) }
+fn add_paths(out: &mut Sequence<Path>, node: &Node, path: &mut Path) -> Result<(), NoMemory>
+    ensures paths { OnOk result (out.new ≡ out.old ++ elements_from node.now path.old) }
+    ensures path { OnOk result (path.new ≡ path.old) }
 {
     out.push(path.copy()?)?;
     for (place, kid) in node.kids.slice().iter().enumerate() {
-        let mut below = path.copy()?;
-        below.push(place)?;
-        add_paths(alloc, out, kid, &below)?;
+        path.push(place)?;
+        add_paths(out, kid, path)?;
+        let _ = path.pop();
     }
     Ok(())
 }

@@ -3,30 +3,27 @@ ghost use Rattle.std.specs.Arc.{arc_value};
 ghost use Rattle.sc_law.specs.Turn.{turn};
 ghost use Rattle.sc_law.specs.Turned.{IsTurn};
 
-use sc_types::{Boxed, Chart, Cue, Effect, LogLine, Sequence, SessionState};
+use crate::turn_result::TurnResult;
+use sc_types::{Boxed, Chart, Cue, SessionState};
 use std::marker::Model;
 use std::sync::Arc;
 
-/// A turn with what it gave: the chart, the session before it and its cue, and then the session after it, the effects
-/// and the log lines. That these three are the turn's is kept by the type, so whoever gets one need not know which
-/// engine made it.
+/// A turn with what it gave, and what it was computed of: the chart, the session before it and its cue. That it gave
+/// this is kept by the type, so whoever gets one need not know which engine made it.
 #[derive(Debug, Drop)]
 pub struct Turned {
     chart: Arc<Chart>,
     before: Boxed<SessionState>,
     cue: Cue,
-    after: Boxed<SessionState>,
-    effects: Sequence<Effect>,
-    logs: Sequence<LogLine>,
+    given: TurnResult,
 }
 
 impl Model for Turned {
     ghost use Rattle.std.specs.Coded.{codes};
     ghost use Rattle.sc_types.specs.contracts.chart.Chart as chart_type;
-    ghost use Rattle.sc_types.specs.contracts.effect.Effect as effect_type;
-    ghost use Rattle.sc_types.specs.contracts.history.LogLine as line_type;
     ghost use Rattle.sc_types.specs.contracts.session.Cue as cue_type;
     ghost use Rattle.sc_types.specs.contracts.session.SessionState as state_type;
+    ghost use Rattle.sc_law.specs.contracts.turn_result.TurnResult as result_type;
     ghost use Rattle.sc_law.specs.Turned.{TurnedOf, IsTurn, turned};
 
     ghost Value = { TurnedOf };
@@ -36,8 +33,7 @@ impl Model for Turned {
       chart_type.the_row.coded,
       state_type.the_row.coded,
       cue_type.the_row.coded,
-      effect_type.the_row.coded,
-      line_type.the_row.coded,
+      result_type.the_row.coded,
     ) };
 
     ghost view = { turned };
@@ -51,28 +47,16 @@ impl Turned {
         chart: Arc<Chart>,
         before: Boxed<SessionState>,
         cue: Cue,
-        after: Boxed<SessionState>,
-        effects: Sequence<Effect>,
-        logs: Sequence<LogLine>,
+        given: TurnResult,
     ) -> Turned
-        requires turn { turn (arc_value chart) before cue ≡ record { after = after; effects = effects; logs = logs } }
-        ensures { result
-            ≡ record {
-              chart = arc_value chart;
-              before = before;
-              cue = cue;
-              after = after;
-              effects = effects;
-              logs = logs;
-            } }
+        requires turn { given ≡ turn (arc_value chart) before cue }
+        ensures { result ≡ record { chart = arc_value chart; before = before; cue = cue; given = given } }
     {
         Turned {
             chart,
             before,
             cue,
-            after,
-            effects,
-            logs,
+            given,
         }
     }
 
@@ -96,30 +80,17 @@ impl Turned {
         &self.cue
     }
 
-    pub fn after(&self) -> &SessionState
-        ensures { result.now ≡ self.now.after }
+    pub fn given(&self) -> &TurnResult
+        ensures { result.now ≡ self.now.given }
     {
-        self.after.get()
+        &self.given
     }
 
-    /// What the host is to do, in this order.
-    pub fn effects(&self) -> &Sequence<Effect>
-        ensures { result.now ≡ self.now.effects }
-    {
-        &self.effects
-    }
-
-    pub fn logs(&self) -> &Sequence<LogLine>
-        ensures { result.now ≡ self.now.logs }
-    {
-        &self.logs
-    }
-
-    /// The session after the turn, the effects and the log lines, without a copy.
-    pub fn into_parts(self) -> (Boxed<SessionState>, Sequence<Effect>, Sequence<LogLine>)
-        ensures value { result ≡ (self.after, self.effects, self.logs) }
+    /// What the turn gave, without a copy.
+    pub fn into_given(self) -> TurnResult
+        ensures value { result ≡ self.given }
         ensures turn { IsTurn self }
     {
-        (self.after, self.effects, self.logs)
+        self.given
     }
 }

@@ -11,13 +11,12 @@ use crate::blocks::{kids_of, run_tagged};
 use sc_base::{NoMemory, Plain, Sequence};
 use sc_bits::Row;
 use sc_exec::Running;
-use sc_select::ShortList;
 use sc_tables::Tables;
-use sc_types::{Effect, Invoked, Tag};
+use sc_types::{Effect, Invoked, ShortList, Tag};
 use std::alloc::Global;
 
-/// The members of a row of states.
-pub(crate) fn members(alloc: Global, t: &Tables, row: &Row) -> Result<ShortList, NoMemory>
+/// The members of a row of states, ascending.
+pub fn members(alloc: Global, t: &Tables, row: &Row) -> Result<ShortList, NoMemory>
     requires { row.now.width ≡ state_count t.now }
     ensures value { IfOk result (λ ms. ms ≡ row.now.members) }
     ensures within { IfOk result (λ ms. All (λ m. m < state_count t.now) ms) }

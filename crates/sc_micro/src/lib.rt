@@ -12,4 +12,5 @@ mod staying;
 mod step;
 
 pub use ending::exit_all;
+pub use leaving::members;
 pub use step::{enter_first, microstep};

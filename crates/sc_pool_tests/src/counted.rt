@@ -1,5 +1,5 @@
 use sc_dev::{Gate, HoldGate};
-use sc_law::{Engine, Turned};
+use sc_law::{Engine, TurnResult, Turned};
 use sc_turn::Compiled;
 use sc_types::{Chart, Cue, NoMemory, SessionState};
 use std::alloc::Global;
@@ -38,6 +38,18 @@ impl Engine for CountedEngine {
 
     fn plan(&self, alloc: Global, chart: &Arc<Chart>) -> Result<Self::Plan, NoMemory> {
         Compiled.plan(alloc, chart)
+    }
+
+    fn give(
+        &self,
+        alloc: Global,
+        plan: &Self::Plan,
+        before: &SessionState,
+        cue: &Cue,
+    ) -> Result<TurnResult, NoMemory> {
+        self.turns.fetch_add(1, Ordering::SeqCst);
+        self.gate.inside(0);
+        Compiled.give(alloc, plan, before, cue)
     }
 
     fn turn(

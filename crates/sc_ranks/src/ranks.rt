@@ -1,4 +1,4 @@
-ghost use Rattle.std.specs.Prelude.{◌≡◌, ◌+◌, ◌-◌, ◌<◌, ◌≤◌, Some, [], length, insert, remove, slice_get, OnOk, OnErr, max};
+ghost use Rattle.std.specs.Prelude.{◌≡◌, ◌+◌, ◌-◌, ◌<◌, ◌≤◌, Some, [], length, insert, remove, slice_get, IsOk, OnOk, OnErr, max};
 ghost use Rattle.std.specs.Prelude.{vec_capacity};
 ghost use Rattle.sc_ranks.specs.Ranks.{place_of, IsRising};
 
@@ -68,6 +68,7 @@ impl Ranks {
         ensures entries { self.new.entries ≡ self.old.entries }
         ensures spare { self.old.spare ≤ self.new.spare }
         ensures ok { OnOk result (count ≤ self.new.spare) }
+        ensures enough { count ≤ self.old.spare → IsOk result × (self.new ≡ self.old) }
     {
         if count <= self.nodes.len() {
             return Ok(());

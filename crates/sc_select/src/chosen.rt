@@ -10,11 +10,10 @@ ghost use Rattle.sc_eval.specs.Envs.{HasIds};
 ghost use Rattle.sc_select.specs.Runs.{IsRunOf};
 
 use crate::enabled::first_enabled;
-use crate::short_list::ShortList;
 use sc_base::NoMemory;
 use sc_exec::Running;
 use sc_tables::Tables;
-use sc_types::StateKind;
+use sc_types::{ShortList, StateKind};
 use std::alloc::Global;
 
 fn is_atomic(t: &Tables, s: u32) -> bool

@@ -6,11 +6,11 @@ ghost use Rattle.sc_law.specs.Transitions.{source, transition_paths};
 ghost use Rattle.sc_law.specs.Tree.{is_below, state_count};
 ghost use Rattle.sc_sets.specs.Conditions.{KeepsStates};
 
-use crate::short_list::ShortList;
 use sc_base::NoMemory;
 use sc_bits::Row;
 use sc_sets::{Histories, exit_row};
 use sc_tables::Tables;
+use sc_types::ShortList;
 use std::alloc::Global;
 
 /// Whether the source of a transition is below that of another.

@@ -8,11 +8,11 @@ ghost use Rattle.sc_select.specs.Exits.{AreExits};
 
 use crate::conflicts::{gives_way_to_one, without_conflicts};
 use crate::exits::exit_union;
-use crate::short_list::ShortList;
 use sc_base::NoMemory;
 use sc_bits::Row;
 use sc_sets::{Histories, exit_row};
 use sc_tables::Tables;
+use sc_types::ShortList;
 use std::alloc::Global;
 
 /// Rows in which exits are compared.

@@ -11,8 +11,6 @@ mod exits;
 mod kept;
 mod matching;
 mod selection;
-mod short_list;
 
 pub use exits::exit_union;
 pub use selection::{eventless, for_event};
-pub use short_list::ShortList;

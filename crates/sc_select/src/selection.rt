@@ -8,11 +8,11 @@ ghost use Rattle.sc_select.specs.Runs.{IsRunOf, run_state};
 
 use crate::chosen::chosen;
 use crate::kept::kept;
-use crate::short_list::ShortList;
 use sc_base::NoMemory;
 use sc_exec::Running;
 use sc_sets::Histories;
 use sc_tables::Tables;
+use sc_types::ShortList;
 use std::alloc::Global;
 
 /// The transitions that are taken without an event. A condition that fails puts `error.execution` into the internal

@@ -1,4 +1,4 @@
-ghost use Rattle.std.specs.Prelude.{◌≡◌, ◌<◌, None, ℕ, List, IfOk, OnOk};
+ghost use Rattle.std.specs.Prelude.{◌≡◌, ◌<◌, ◌≤◌, None, ℕ, List, IfErr, IfOk, OnOk};
 ghost use Rattle.sc_law.specs.Tree.{state_paths, state_named};
 ghost use Rattle.sc_law.specs.Configurations.{named};
 ghost use Rattle.sc_tables.specs.Ids.{number_of, IsPut, IsAdded};
@@ -123,6 +123,7 @@ impl<'c> StateIds<'c> {
 pub(crate) fn state_number(place: usize) -> Result<u32, NoMemory>
     ensures value { IfOk result (λ n. n ≡ place) }
     ensures small { IfOk result (λ _. place < 4294967296) }
+    ensures large { IfErr result (λ _. 4294967296 ≤ place) }
 {
     match u32::try_from(place) {
         Ok(number) => Ok(number),

@@ -1,5 +1,5 @@
 ghost use Rattle.std.specs.Prelude.{◌≡◌, ◌-◌, ◌<◌, ◌≤◌, ℕ, List, [], ◌∷◌, length, not, filter, count_by, slice_get};
-ghost use Rattle.std.specs.Prelude.{Option, Some, OnOk, OnErr, IfNone, IfSome, All};
+ghost use Rattle.std.specs.Prelude.{Option, Some, IsOk, OnOk, OnErr, IfNone, IfSome, All};
 ghost use Rattle.std.specs.Option.{option_copied};
 ghost use Rattle.sc_types.specs.Sends.{with_send, is_of, is_send, IsBeforeAll, IsInDueOrder};
 ghost use Rattle.sc_timers.specs.Order.{picks};
@@ -58,6 +58,7 @@ impl Timers {
         ensures spare { self.old.spare ≤ self.new.spare }
         ensures ok { OnOk result (count ≤ self.new.spare) }
         ensures err { OnErr result (self.new ≡ self.old) }
+        ensures enough { count ≤ self.old.spare → IsOk result × (self.new ≡ self.old) }
     {
         if count <= self.spare {
             return Ok(());

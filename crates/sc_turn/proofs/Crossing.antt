@@ -7,6 +7,8 @@ use Rattle.std.proofs.Crossing.{crosses}
 use Rattle.sc_base.proofs.boxed.Boxed.TheSendSync as boxed
 use Rattle.sc_base.proofs.bytes.Bytes.TheSendSync as bytes
 use Rattle.sc_base.proofs.sequence.Sequence.TheSendSync as sequence
+use Rattle.sc_base.proofs.counted.Counted.TheSendSync as counted
+use Rattle.sc_base.proofs.shared_bytes.SharedBytes.TheSendSync as shared_bytes
 use Rattle.sc_base.proofs.text.PlainName.TheSendSync as plain_name
 use Rattle.sc_types.proofs.expr.Expr.TheLaws.TheKnot.{send-Expr, sync-Expr}
 use Rattle.sc_types.proofs.expr.EventField.TheSendSync as event_field
@@ -45,6 +47,10 @@ ruleset parts = (
   bytes.the_sync,
   sequence.the_send,
   sequence.the_sync,
+  counted.the_send,
+  counted.the_sync,
+  shared_bytes.the_send,
+  shared_bytes.the_sync,
   plain_name.the_send,
   plain_name.the_sync,
 )

@@ -1,5 +1,4 @@
 pub mod Eventless
-pub mod Given
 pub mod Rounds
 pub mod Starts
 pub mod States

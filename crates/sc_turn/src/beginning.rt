@@ -16,7 +16,7 @@ ghost use Rattle.sc_tables.specs.Rows.{row_of};
 use crate::plan::Plan;
 use crate::rows::row_of;
 use crate::run_state::RunState;
-use sc_base::{Bytes, NoMemory, Plain, Queue, Sequence, Shared, Word};
+use sc_base::{NoMemory, Plain, Queue, Sequence, Shared, SharedBytes, Word};
 use sc_bits::Row;
 use sc_eval::{DataTable, Env};
 use sc_exec::Running;
@@ -90,7 +90,7 @@ fn rows(alloc: Global, plan: &Plan, before: &SessionState) -> Result<(Row, Row),
 }
 
 /// The session's name, and the chart's.
-fn names(plan: &Plan, before: &SessionState) -> Result<(Word, Bytes), NoMemory>
+fn names(plan: &Plan, before: &SessionState) -> Result<(Word, SharedBytes), NoMemory>
     ensures { IfOk result (λ ns. ns ≡ (before.now.session, chart_name plan.now)) }
 {
     Ok((before.session.copy()?, plan.name().copy()?))

@@ -2,18 +2,17 @@ ghost use Rattle.std.specs.Prelude.{◌≡◌, IfOk, OnOk};
 ghost use Rattle.std.specs.Option.{option_copied};
 ghost use Rattle.std.specs.Arc.{arc_value};
 ghost use Rattle.sc_law.specs.Turn.{after, turn, start, finish, settle};
-ghost use Rattle.sc_turn.specs.Given.{Gives};
 ghost use Rattle.sc_turn.specs.States.{CanBegin, IsOver, begun, bound_by, state_of};
 ghost use Rattle.sc_types.specs.declared.session.SessionState.{SessionState as Session};
 
 use crate::beginning::begin;
-use crate::ending::{TurnResult, close, exit_active, finish};
+use crate::ending::{close, exit_active, finish};
 use crate::plan::Plan;
 use crate::rounds::{settle, take_external};
 use crate::run_state::RunState;
 use sc_base::{Boxed, NoMemory, Plain, Shared};
 use sc_exec::first_data;
-use sc_law::{Engine, Turned};
+use sc_law::{Engine, TurnResult, Turned};
 use sc_micro::enter_first;
 use sc_types::{Chart, Cue, Event, How, Phase, SessionState};
 use std::alloc::Global;
@@ -30,6 +29,16 @@ impl Engine for Compiled {
 
     fn plan(&self, alloc: Global, chart: &Arc<Chart>) -> Result<Plan, NoMemory> {
         Plan::new(alloc, chart)
+    }
+
+    fn give(
+        &self,
+        alloc: Global,
+        plan: &Plan,
+        before: &SessionState,
+        cue: &Cue,
+    ) -> Result<TurnResult, NoMemory> {
+        given(alloc, plan, before, cue)
     }
 
     fn turn(
@@ -52,7 +61,7 @@ fn given(
     cue: &Cue,
 ) -> Result<TurnResult, NoMemory>
     requires { CanBegin plan.now before.now }
-    ensures { IfOk result (Gives plan.now before.now cue.now) }
+    ensures { IfOk result (λ r. r ≡ turn plan.now before.now cue.now) }
 {
     let mut x = begin(alloc, plan, before, bound_by(before, cue))?;
     let phase = run(alloc, &mut x, plan, before, cue)?;
@@ -77,19 +86,12 @@ fn turned(
     cue: &Cue,
     given: TurnResult,
 ) -> Result<Turned, NoMemory>
-    requires { Gives plan.now before.now cue.now given }
+    requires { given ≡ turn plan.now before.now cue.now }
     ensures { IfOk result (λ t. t
-        ≡ record {
-          chart = plan.now;
-          before = before.now;
-          cue = cue.now;
-          after = given.after;
-          effects = given.effects;
-          logs = given.logs;
-        }) }
+        ≡ record { chart = plan.now; before = before.now; cue = cue.now; given = given }) }
 {
     let (chart, before, cue) = copies(alloc, plan, before, cue)?;
-    Ok(Turned::new(chart, before, cue, given.after, given.effects, given.logs))
+    Ok(Turned::new(chart, before, cue, given))
 }
 
 /// What a turn was made of.

@@ -4,23 +4,15 @@ ghost use Rattle.sc_law.specs.Turn.{after, exit_all, finish};
 ghost use Rattle.sc_law.specs.Runs.{with_running};
 ghost use Rattle.sc_turn.specs.States.{IsOver, state_of};
 
-use crate::rows::members;
 use crate::run_state::RunState;
-use sc_base::{Boxed, NoMemory, Plain, Sequence};
+use sc_base::{Boxed, NoMemory, Plain};
 use sc_eval::Env;
 use sc_exec::Running;
-use sc_micro::exit_all;
+use sc_law::TurnResult;
+use sc_micro::{exit_all, members};
 use sc_tables::Tables;
-use sc_types::{Data, Effect, How, LogLine, Phase, SessionState};
+use sc_types::{Data, How, Phase, SessionState};
 use std::alloc::Global;
-
-/// What a turn gives.
-#[derive(Debug, Drop)]
-pub(crate) struct TurnResult {
-    pub(crate) after: Boxed<SessionState>,
-    pub(crate) effects: Sequence<Effect>,
-    pub(crate) logs: Sequence<LogLine>,
-}
 
 /// Exits what is active, for a session that ends.
 pub(crate) fn exit_active(alloc: Global, x: &mut RunState, t: &Tables) -> Result<Data, NoMemory>
@@ -64,8 +56,7 @@ pub(crate) fn close(
     phase: Phase,
 ) -> Result<TurnResult, NoMemory>
     requires { IsOver t.now x }
-    ensures { IfOk result (λ r. after before.now phase (state_of x)
-        ≡ record { after = r.after; effects = r.effects; logs = r.logs }) }
+    ensures { IfOk result (λ r. r ≡ after before.now phase (state_of x)) }
 {
     let RunState { running, histories } = x;
     let configuration = members(alloc, t, &running.env.configuration)?;
@@ -99,9 +90,6 @@ pub(crate) fn close(
         sends,
         born,
     };
-    Ok(TurnResult {
-        after: Boxed::new(alloc, after)?,
-        effects,
-        logs,
-    })
+    let after = Boxed::new(alloc, after)?;
+    Ok(TurnResult::new(after, effects, logs))
 }

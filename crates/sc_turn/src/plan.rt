@@ -11,7 +11,7 @@ ghost use Rattle.sc_turn.specs.States.{chart_name};
 use crate::eventless::has_eventless;
 use crate::ids::chart_ids;
 use crate::limit::round_limit;
-use sc_base::{Bytes, NoMemory};
+use sc_base::{NoMemory, SharedBytes};
 use sc_eval::Ids;
 use sc_tables::{Tables, build};
 use sc_types::{Attribute, Chart};
@@ -26,7 +26,7 @@ pub struct Plan {
     tables: Tables,
     state_ids: Arc<Ids>,
     limit: u64,
-    name: Bytes,
+    name: SharedBytes,
     eventless: bool,
 }
 
@@ -97,7 +97,7 @@ impl Plan {
     }
 
     /// The chart's name, which is empty where it has none.
-    pub(crate) fn name(&self) -> &Bytes
+    pub(crate) fn name(&self) -> &SharedBytes
         ensures { result.now ≡ chart_name self.now }
     {
         &self.name
@@ -111,12 +111,12 @@ impl Plan {
     }
 }
 
-fn chart_name(alloc: Global, chart: &Chart) -> Result<Bytes, NoMemory>
+fn chart_name(alloc: Global, chart: &Chart) -> Result<SharedBytes, NoMemory>
     ensures { IfOk result (λ name. name ≡ chart_name chart.now) }
 {
     match chart.root.text(Attribute::Name) {
-        Some(name) => Bytes::from_slice(alloc, name),
-        None => Ok(Bytes::new(alloc)),
+        Some(name) => SharedBytes::from_slice(alloc, name),
+        None => Ok(SharedBytes::empty()),
     }
 }
 
@@ -128,7 +128,13 @@ fn shared_ids(alloc: Global, t: &Tables) -> Result<Arc<Ids>, NoMemory>
     Ok(Arc::new(alloc, rows)?)
 }
 
-fn joined(tables: Tables, state_ids: Arc<Ids>, limit: u64, name: Bytes, eventless: bool) -> Plan
+fn joined(
+    tables: Tables,
+    state_ids: Arc<Ids>,
+    limit: u64,
+    name: SharedBytes,
+    eventless: bool,
+) -> Plan
     requires ids { arc_value state_ids ≡ ids tables }
     requires limit { limit ≡ round_limit tables }
     requires name { name ≡ chart_name tables }

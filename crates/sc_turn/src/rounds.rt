@@ -12,9 +12,9 @@ use crate::plan::Plan;
 use crate::run_state::RunState;
 use sc_base::{NoMemory, Plain, Shared};
 use sc_micro::microstep;
-use sc_select::{ShortList, eventless, for_event};
+use sc_select::{eventless, for_event};
 use sc_tables::Tables;
-use sc_types::Event;
+use sc_types::{Event, ShortList};
 use std::alloc::Global;
 
 /// What a round takes.

@@ -2,7 +2,7 @@ ghost use Rattle.std.specs.Prelude.{◌≡◌, IfOk, IsTrue};
 ghost use Rattle.sc_law.specs.Fitting.{are_states};
 ghost use Rattle.sc_law.specs.Tree.{state_count};
 
-use sc_base::{NoMemory, Sequence};
+use sc_base::NoMemory;
 use sc_bits::Row;
 use sc_tables::Tables;
 use std::alloc::Global;
@@ -17,20 +17,4 @@ pub(crate) fn row_of(alloc: Global, t: &Tables, states: &[u32]) -> Result<Row, N
         row.add(*s);
     }
     Ok(row)
-}
-
-/// The members of a row of states, ascending.
-pub(crate) fn members(alloc: Global, t: &Tables, row: &Row) -> Result<Sequence<u32>, NoMemory>
-    requires { row.now.width ≡ state_count t.now }
-    ensures { IfOk result (λ ss. ss ≡ row.now.members) }
-{
-    // The numbers of states have 32 bits.
-    let _count = t.count();
-    let mut states = Sequence::new(alloc);
-    let mut from = 0;
-    while let Some(s) = row.next(from) {
-        states.push(s)?;
-        from = s + 1;
-    }
-    Ok(states)
 }

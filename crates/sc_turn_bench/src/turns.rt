@@ -8,7 +8,7 @@ ghost use Rattle.sc_turn_bench.specs.Sessions.{Waits, WaitsFor};
 use sc_base::{Name, NoMemory, Plain, Queue, Sequence, Shared, SharedBytes, Word};
 use sc_law::Engine;
 use sc_turn::{Compiled, Plan};
-use sc_types::{Cue, Data, Event, Kind, Phase, SessionState};
+use sc_types::{Cue, Data, Event, Kind, Phase, SessionState, ShortList};
 use sc_valid::LegalChart;
 use std::alloc::Global;
 use std::sync::Arc;
@@ -38,9 +38,9 @@ fn fresh_state(alloc: Global, name: &Word) -> Result<SessionState, NoMemory>
         session: name.copy()?,
         chart: name.copy()?,
         phase: Phase::Fresh,
-        configuration: Sequence::new(alloc),
+        configuration: ShortList::new(alloc),
         values: Sequence::new(alloc),
-        entered: Sequence::new(alloc),
+        entered: ShortList::new(alloc),
         histories: Sequence::new(alloc),
         internal: Queue::new(alloc),
         invokes: Sequence::new(alloc),
@@ -75,8 +75,8 @@ fn next(alloc: Global, plan: &Plan, before: &SessionState, cue: &Cue) -> Option<
     requires cue { HasCue before.now cue.now }
     ensures { IfSome result (Waits plan.now) }
 {
-    match Compiled.turn(alloc, plan, before, cue) {
-        Ok(turned) => waiting(turned.into_parts().0.into_inner()),
+    match Compiled.give(alloc, plan, before, cue) {
+        Ok(given) => waiting(given.into_parts().0.into_inner()),
         Err(NoMemory) => None,
     }
 }

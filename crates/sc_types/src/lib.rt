@@ -1,7 +1,7 @@
 //! The plain data of the host: texts, values, charts, events, sessions, commands and entries, with their limits.
 //!
-//! A list in a field is a [`Sequence`], which contracts see as the list of its items, so that a copy of any of
-//! these types equals what it copies.
+//! A list in a field is a [`Sequence`], or a [`ShortList`] of states, which contracts see as the list of its items, so
+//! that a copy of any of these types equals what it copies.
 #![tactic(auto)]
 
 mod attribute;
@@ -17,6 +17,7 @@ mod host;
 mod limits;
 mod node;
 mod session;
+mod short_list;
 mod state_kind;
 mod token;
 mod value;
@@ -42,6 +43,7 @@ pub use sc_base::{
     is_plain_name, is_text, is_word,
 };
 pub use session::{Cue, CueName, Histories, How, Invoked, Phase, SessionState, Values};
+pub use short_list::ShortList;
 pub use state_kind::StateKind;
 pub use token::{Mark, Token};
 pub use value::{PairList, Value};

@@ -2,6 +2,7 @@ ghost use Rattle.std.specs.Prelude.{◌≡◌, IfOk};
 ghost use Rattle.std.proofs.Common.{rules};
 
 use crate::event::{Data, Event};
+use crate::short_list::ShortList;
 use crate::value::{PairList, Value};
 use sc_base::{Boxed, NoMemory, Plain, PlainName, Queue, Sequence, Shared, SharedBytes, Word};
 use std::alloc::{AllocError, Global};
@@ -48,10 +49,10 @@ pub struct SessionState {
     pub chart: Word,
     pub phase: Phase,
     /// The active states, ascending.
-    pub configuration: Sequence<u32>,
+    pub configuration: ShortList,
     pub values: Values,
     /// The states that were entered at least once, ascending.
-    pub entered: Sequence<u32>,
+    pub entered: ShortList,
     pub histories: Histories,
     /// The internal queue, its front first.
     pub internal: Queue<Event>,
@@ -159,9 +160,7 @@ fn copy_names(state: &SessionState) -> Result<(Word, Word, Phase), NoMemory>
     ))
 }
 
-fn copy_sets(
-    state: &SessionState,
-) -> Result<(Sequence<u32>, Values, Sequence<u32>, Histories), NoMemory>
+fn copy_sets(state: &SessionState) -> Result<(ShortList, Values, ShortList, Histories), NoMemory>
     ensures { IfOk result (λ c. c
         ≡ (state.now.configuration, state.now.values, state.now.entered, state.now.histories)) }
 {

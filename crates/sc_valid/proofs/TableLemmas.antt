@@ -1,5 +1,5 @@
 -- A table after an id was put into it.
-use Rattle.std.proofs.Common.{◌≡◌, ℕ, Bool, true, false, cond, Option, Some, None, List, refl, sym, ap, ◌∙◌, is_some, find, take, get_or, length, ◌+◌, ◌<◌, ◌∷◌, ◌++◌, [], ◌&&◌, rules}
+use Rattle.std.proofs.Common.{◌≡◌, ℕ, Bool, true, false, cond, Option, Some, None, List, refl, sym, ap, ◌∙◌, find, take, get_or, length, ◌+◌, ◌<◌, ◌∷◌, ◌++◌, [], ◌&&◌, rules}
 use Rattle.std.specs.BTreeMap.{UpdatesBy}
 use Rattle.std.specs.Cmp.{eq_by_cmp_equiv}
 use Rattle.std.specs.Cmp.Lexicographic.{slice_cmp, bytes_decides, nat_list_cmp_total, nat_list_eq_equiv}
@@ -28,25 +28,39 @@ module _ {K X : Type 0} (eq : K → K → Bool) (test : K → Bool) where
   unfolding KeepsOthers
   others_kept old new h = h
 
-none_left : (o : Option Path) → is_some o ≡ false → o ≡ None
-none_left None e = refl
-none_left (Some path) e = search rules
-
 or_none : (o : Option Path) → o ≡ option_or o None
 or_none None = refl
 or_none (Some path) = refl
 
 -- an id that had no path
-pub put_new : (f g : Firsts) (id : List ℕ) (path : Path) → is_some (first_of f id) ≡ false
+pub put_new : (f g : Firsts) (id : List ℕ) (path : Path) → first_of f id ≡ None
     → UpdatesBy (λ x y. slice_cmp nat_cmp x.items y.items) (λ key. slice_cmp nat_cmp id key.items) f.paths g.paths (Some path) → IsPut f id path g
 put_new f g id path absent h = record { finds = λ other. by other (bytes_eq id other) refl } where
   by : (other : List ℕ) (b : Bool) → bytes_eq id other ≡ b → first_of g other ≡ option_or (first_of f other) (cond b (Some path) None)
   by other true e =
       let same = (bytes_decides id other).0 e in
       ap (first_of g) (sym same) ∙ h.1
-      ∙ ap (λ o. option_or o (Some path)) (sym (ap (first_of f) (sym same) ∙ none_left (first_of f id) absent))
+      ∙ ap (λ o. option_or o (Some path)) (sym (ap (first_of f) (sym same) ∙ absent))
   by other false e =
       others_kept _ _ f.paths.entries g.paths.entries h.3 _
+      (λ x y. (eq_by_cmp_equiv nat_list_cmp_total).congr other x.items y.items) (λ key. apart id other key.items e)
+      ∙ or_none (first_of f other)
+
+-- an id whose path was put back
+pub put_back : (f g h : Firsts) (id : List ℕ) (path first : Path) → first_of f id ≡ Some first
+    → UpdatesBy (λ x y. slice_cmp nat_cmp x.items y.items) (λ key. slice_cmp nat_cmp id key.items) f.paths g.paths (Some path)
+    → UpdatesBy (λ x y. slice_cmp nat_cmp x.items y.items) (λ key. slice_cmp nat_cmp id key.items) g.paths h.paths (Some first)
+    → IsPut f id path h
+put_back f g h id path first found put back = record { finds = λ other. by other (bytes_eq id other) refl } where
+  by : (other : List ℕ) (b : Bool) → bytes_eq id other ≡ b → first_of h other ≡ option_or (first_of f other) (cond b (Some path) None)
+  by other true e =
+      let same = (bytes_decides id other).0 e in
+      ap (first_of h) (sym same) ∙ back.1
+      ∙ ap (λ o. option_or o (Some path)) (sym (ap (first_of f) (sym same) ∙ found))
+  by other false e =
+      others_kept _ _ g.paths.entries h.paths.entries back.3 _
+      (λ x y. (eq_by_cmp_equiv nat_list_cmp_total).congr other x.items y.items) (λ key. apart id other key.items e)
+      ∙ others_kept _ _ f.paths.entries g.paths.entries put.3 _
       (λ x y. (eq_by_cmp_equiv nat_list_cmp_total).congr other x.items y.items) (λ key. apart id other key.items e)
       ∙ or_none (first_of f other)
 

@@ -47,14 +47,16 @@ impl Firsts {
         }
     }
 
+    // Ids seldom come twice, so the table is not asked first: where one does, its path is put back.
     fn put(&mut self, alloc: Global, id: &[u8], path: &Path) -> Result<(), NoMemory>
         ensures { OnOk result (IsPut self.old id.now path.now self.new) }
     {
-        if self.paths.contains_key(id) {
-            return Ok(());
+        let key = Vec::from_slice(alloc, id)?;
+        let before = self.paths.insert(key, path.copy()?)?;
+        if let Some(first) = before {
+            let key = Vec::from_slice(alloc, id)?;
+            self.paths.insert(key, first)?;
         }
-        self.paths
-            .insert(Vec::from_slice(alloc, id)?, path.copy()?)?;
         Ok(())
     }
 }

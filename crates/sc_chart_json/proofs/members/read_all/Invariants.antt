@@ -1,6 +1,6 @@
 use Rattle.std.proofs.Common.{◌≡◌, ◌++◌, drop, find}
 use Rattle.std.specs.List.{filter_map}
-use Rattle.serde_json.specs.View.{view}
+use Rattle.sc_chart_json.specs.Trees.{view}
 use Rattle.sc_expr.specs.Reading.{expr_of}
 use Rattle.sc_types.specs.Profiles.{plain}
 use Rattle.sc_types.specs.ChartTexts.{is_bad_code, member_at}

@@ -1,6 +1,6 @@
 use Rattle.std.proofs.Common.{rules, subst, ◌≡◌, ◌+◌, ◌∷◌, drop, ap, ◌∙◌, arith}
 use Rattle.std.proofs.lemmas.List.{drop_more}
-use Rattle.serde_json.specs.View.{items_view}
+use Rattle.sc_chart_json.specs.Trees.{items_view}
 use Rattle.sc_types.specs.ChartTexts.{kid_places, places}
 use Rattle.std.proofs.Common.{◌-◌, length}
 use Rattle.sc_chart_json.specs.Walking.{Stops, AreRead, AreReading}

@@ -1,5 +1,5 @@
 use Rattle.std.proofs.Common.{◌≡◌, ◌+◌, ◌-◌, ◌*◌, drop, length}
-use Rattle.serde_json.specs.View.{items_view}
+use Rattle.sc_chart_json.specs.Trees.{items_view}
 use Rattle.sc_chart_json.specs.Walking.{AreReading}
 use Rattle.sc_chart_json.proofs.reader.+element.Given as goal
 

@@ -10,22 +10,22 @@ unreachable-requires-in_default-chart_named g c =
     chart_there g.E.Engine.chart_of c.args.body.now c.args.place c.in-Some.session.now c.requires.held
     (sym c.in-Some.ensures) c.in_default-chart_named.ensures
 
-pub turn-requires-clause-legal : goal.turn-requires-clause-legal
-turn-requires-clause-legal g c =
+pub give-requires-clause-legal : goal.give-requires-clause-legal
+give-requires-clause-legal g c =
     let is = turning g.E.Engine.chart_of c.args.body.now c.args.place c.in-Some.session.now c.args.cue.now
     c.in-Some-chart_named.chart.now c.requires.held (sym c.in-Some.ensures) c.requires.settled c.requires.cue
     c.in-Some-chart_named.ensures in
     ap (λ p. legal_fault (g.E.Engine.chart_of p)) c.deref.ensures ∙ is.legal
 
-pub turn-requires-clause-fits : goal.turn-requires-clause-fits
-turn-requires-clause-fits g c =
+pub give-requires-clause-fits : goal.give-requires-clause-fits
+give-requires-clause-fits g c =
     let is = turning g.E.Engine.chart_of c.args.body.now c.args.place c.in-Some.session.now c.args.cue.now
     c.in-Some-chart_named.chart.now c.requires.held (sym c.in-Some.ensures) c.requires.settled c.requires.cue
     c.in-Some-chart_named.ensures in
     subst (λ p. Fits (g.E.Engine.chart_of p) c.in-Some.session.now.state) (sym c.deref.ensures) is.fits
 
-pub turn-requires-clause-cue : goal.turn-requires-clause-cue
-turn-requires-clause-cue g c =
+pub give-requires-clause-cue : goal.give-requires-clause-cue
+give-requires-clause-cue g c =
     let is = turning g.E.Engine.chart_of c.args.body.now c.args.place c.in-Some.session.now c.args.cue.now
     c.in-Some-chart_named.chart.now c.requires.held (sym c.in-Some.ensures) c.requires.settled c.requires.cue
     c.in-Some-chart_named.ensures in
@@ -39,7 +39,7 @@ returns-clause-turn g c =
     (sym c.in-Some.ensures) c.requires.settled c.requires.cue c.in-Some-chart_named.ensures in
     let seen = subst (λ p. IsTurning body s c.args.cue.now (g.E.Engine.chart_of p)) (sym c.deref.ensures) is in
     each_ok (λ t turn x there. turn_seen body c.args.place s c.args.cue.now (g.E.Engine.chart_of c.deref.result.now) t x
-    (sym c.in-Some.ensures) there seen turn) c.turn.result c.turn.ensures.turn
+    (sym c.in-Some.ensures) there seen turn) c.give.result c.give.ensures.given
 
 pub returns-clause-fits : goal.returns-clause-fits
 returns-clause-fits g c =
@@ -49,4 +49,4 @@ returns-clause-fits g c =
     (sym c.in-Some.ensures) c.requires.settled c.requires.cue c.in-Some-chart_named.ensures in
     let seen = subst (λ p. IsTurning body s c.args.cue.now (g.E.Engine.chart_of p)) (sym c.deref.ensures) is in
     each_ok (λ t fits x there running. fits_seen body c.args.place s c.args.cue.now (g.E.Engine.chart_of c.deref.result.now)
-    t.after x (sym c.in-Some.ensures) there seen (fits running)) c.turn.result c.turn.ensures.fits
+    t.after x (sym c.in-Some.ensures) there seen (fits running)) c.give.result c.give.ensures.fits

@@ -15,8 +15,8 @@ draft_turn-requires-clause-there g c =
     let place = c.args.place in
     let found = session_there c.args.body.now.sessions.items place c.requires.within in
     let there = ap (λ (h : HostImage). slice_get h.sessions place) c.settle.ensures.keeps.image ∙ found.1 in
-    turn_named (image c.settle.new.self) place found.0 c.args.cue.now c.in_ok-turned.turned there
-    (c.in_ok-turned.ensures.turn found.0 there) c.chart-chart.ensures.turn
+    turn_named (image c.settle.new.self) place found.0 c.args.cue.now c.in_ok-given.given there
+    (c.in_ok-given.ensures.turn found.0 there)
 
 pub returns-clause-step : goal.returns-clause-step
 returns-clause-step g c =
@@ -27,5 +27,4 @@ returns-clause-step g c =
     each_ok (λ p prepared s at.
     let there = ap (λ (h : HostImage). slice_get h.sessions place) same ∙ at in
     subst (λ (h : HostImage). Prepares (step_turn h place s cue (turn (chart_named h s.state.chart) s.state cue)) h p) same
-    (step_given body place s cue c.in_ok-turned.turned p (c.in_ok-turned.ensures.turn s there) c.chart-chart.ensures.turn
-    (prepared s there))) c.draft_turn.result c.draft_turn.ensures.step
+    (step_given body place s cue c.in_ok-given.given p (c.in_ok-given.ensures.turn s there) (prepared s there))) c.draft_turn.result c.draft_turn.ensures.step

@@ -1,9 +1,10 @@
-use Rattle.std.proofs.Common.{◌≡◌, ◌+◌, ◌-◌, ◌^◌, ◌&&◌, false, true, nat_lt, ap, sym, ◌∙◌}
+use Rattle.std.proofs.Common.{◌≡◌, ◌++◌, ◌∷◌, [], ◌+◌, ◌-◌, ◌^◌, ◌&&◌, false, true, nat_lt, ap, sym, ◌∙◌}
 use Rattle.sc_types.specs.declared.history.Delivery.TheVariants.{Timed}
 use Rattle.sc_core.specs.Bodies.{image}
 use Rattle.sc_core.specs.Deliveries.{due_time}
 use Rattle.sc_core.specs.Drafts.{so_far, stepper}
 use Rattle.sc_core.specs.Hosts.{is_live}
+use Rattle.sc_core.specs.declared.change.Change.TheVariants.{Delay}
 use Rattle.sc_core.proofs.DraftLemmas.{delay_drafted, dropped_drafted, next_is, sender_there}
 use Rattle.sc_core.proofs.body.Body.draft_delay.Goals as goal
 
@@ -29,5 +30,6 @@ returns-clause-told g c = λ h t sender.
     delay_drafted (stepper after.session c.args.place) h old _ t c.args.to c.args.event c.args.delay _ _ sender.draft yes
     (next_is k t c.args.to c.args.event c.args.delay c.in_ok-copy.field-0 (old.delayed + 1) c.saturating_add-due.result
     (c.in_ok-copy.ensures ∙ sym found.is.session) (ap (λ n. n + 1) sender.draft.delayed) due)
-    (ap (λ cs. record old { changes = cs; delayed = old.delayed + 1 }) c.in_ok-push.ensures.ok)
+    (ap (λ cs. record old { changes = cs; delayed = old.delayed + 1 })
+    (c.in_ok-push.ensures.ok ∙ ap (λ s. old.changes ++ Delay s ∷ []) c.in_ok-send.ensures))
     (ap (λ n. Timed (old.delayed + 1) n) due)

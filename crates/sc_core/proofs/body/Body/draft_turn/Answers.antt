@@ -28,9 +28,8 @@ returns-clause-step g c = λ s there.
     let cue = c.args.cue.now in
     let d = c.in_ok-draft.draft in
     let e = c.draft_end.new.draft in
-    let t : TurnResult =
-    record { after = c.args.turned.after; effects = c.args.turned.effects; logs = c.args.turned.logs } in
-    let parts = c.into_parts-after.ensures.value in
+    let t : TurnResult = c.args.given in
+    let parts = c.into_parts-after.ensures in
     let named : t.after.session ≡ s.state.session =
     same_Some t.after.session s.state.session
     (sym c.requires.there ∙ ap (λ o. option_map (λ (x : SessionImage). x.state.session) o) there) in
@@ -79,9 +78,8 @@ returns-clause-none g c = λ chart_of.
     let cue = c.args.cue.now in
     let d = c.in_ok-draft.draft in
     let e = c.draft_end.new.draft in
-    let t : TurnResult =
-    record { after = c.args.turned.after; effects = c.args.turned.effects; logs = c.args.turned.logs } in
-    let parts = c.into_parts-after.ensures.value in
+    let t : TurnResult = c.args.given in
+    let parts = c.into_parts-after.ensures in
     let found = some_map _ t.after.session c.requires.there in
     let s = found.0 in
     let there = found.1 in

@@ -1,14 +1,18 @@
-use Rattle.std.proofs.Common.{◌≡◌, None, length, sym, arith}
+use Rattle.std.proofs.Common.{◌≡◌, ◌∷◌, ◌++◌, [], List, None, Option, ℕ, subst}
+use Rattle.sc_types.specs.declared.value.Value.{Value}
+use Rattle.sc_eval.specs.Places.{IsIndexed}
 use Rattle.sc_eval.proofs.Rows.{distinct-push}
-use Rattle.sc_eval.proofs.Tables.{index-push}
 use Rattle.sc_eval.proofs.data_table.DataTable.declare.Goals as goal
 
 pub invariant_of-self-2 : goal.invariant_of-self-2
 invariant_of-self-2 c =
-    let same : c.self.inside.rows.items ≡ c.args.self.now = c.self.view_is in
-    let len : c.len.result ≡ length c.self.inside.rows.items = omega arith in
-    rw (c.push_reserved.ensures, c.in_ok-reserve.ensures.items) (
-      index-push c.self.inside.places c.put.new.self c.self.inside.rows.items (c.args.name, None) c.bytes.result.now
-          c.len.result (sym c.bytes.ensures.value) len c.self.invariant.0 c.in_ok-put.ensures.ok,
-      distinct-push c.self.inside.rows.items (c.args.name, None) c.self.invariant.1 (rw same c.requires),
+    let rows = c.self.inside.rows.items in
+    let same : rows ≡ c.args.self.now = c.self.view_is in
+    let kept : c.reserve.new.self.items ≡ rows = c.in_ok-reserve.ensures.items in
+    let noted = subst (λ (ns : List ℕ). IsIndexed c.note_place.new.places (c.as_slice.result.now ++ (ns, None) ∷ []))
+    c.bytes.ensures.value (c.in_ok-note_place.ensures.ok None) in
+    rw c.push_reserved.ensures (
+      subst (λ (rs : List (List ℕ × Option Value)). IsIndexed c.note_place.new.places (rs ++ (c.args.name, None) ∷ []))
+          c.as_slice.ensures.value noted,
+      rw kept (distinct-push rows (c.args.name, None) c.self.invariant.1 (rw same c.requires)),
     )

@@ -5,15 +5,14 @@ use Rattle.sc_eval.proofs.data_table.DataTable.get.Goals as goal
 
 pub returns-in_err-place : goal.returns-in_err-place
 returns-in_err-place c =
-    let same : c.self.inside.rows.items ≡ c.args.self.now = c.self.view_is in
-    let none : first_place c.args.name.now c.self.inside.rows.items ≡ None =
-    sym (c.self.invariant.0.finds c.args.name.now) ∙ sym c.find.ensures ∙ c.in_err-place.was in
-    rw (c.from_residual.ensures, ← same, find_none c.args.name.now c.self.inside.rows.items none) refl
+    let none : first_place c.args.name.now c.args.self.now ≡ None = sym c.find.ensures ∙ c.in_err-place.was in
+    rw (c.from_residual.ensures, find_none c.args.name.now c.args.self.now none) refl
 
 pub index-requires : goal.index-requires
 index-requires c =
+    let same : c.self.inside.rows.items ≡ c.args.self.now = c.self.view_is in
     let some : first_place c.args.name.now c.self.inside.rows.items ≡ Some c.in_ok-place.place =
-    sym (c.self.invariant.0.finds c.args.name.now) ∙ sym c.find.ensures ∙ c.in_ok-place.was in
+    rw same (sym c.find.ensures ∙ c.in_ok-place.was) in
     let below : c.in_ok-place.place < length c.self.inside.rows.items =
     place_within c.args.name.now c.self.inside.rows.items c.in_ok-place.place some in
     omega arith
@@ -22,5 +21,5 @@ pub returns : goal.returns
 returns c =
     let same : c.self.inside.rows.items ≡ c.args.self.now = c.self.view_is in
     let some : first_place c.args.name.now c.self.inside.rows.items ≡ Some c.in_ok-place.place =
-    sym (c.self.invariant.0.finds c.args.name.now) ∙ sym c.find.ensures ∙ c.in_ok-place.was in
+    rw same (sym c.find.ensures ∙ c.in_ok-place.was) in
     rw (c.as_ref.ensures.value, ← same, find_at c.args.name.now c.self.inside.rows.items c.in_ok-place.place c.index.result.now some c.index.ensures) refl

@@ -1,4 +1,7 @@
-use Rattle.sc_pool.proofs.ClientLemmas.{took_within}
+use Rattle.std.proofs.Common.{List, ap, subst}
+use Rattle.sc_pool.specs.Clients.{KeepsMade}
+use Rattle.sc_pool.specs.declared.client.Client.{Client}
+use Rattle.sc_pool.proofs.ClientLemmas.{keeps_then, marked_keeps, marked_made, took_keeps, took_within}
 use Rattle.sc_pool.proofs.PoolLemmas.{client_failed, client_made}
 use Rattle.sc_pool.proofs.locked.Locked.next.Goals as goal
 
@@ -17,3 +20,11 @@ invariant_of-self-in-Err g c = (
       c.in-Err.ensures.err c.in-Err.ensures.goes_on c.worse.ensures,
   c.self.invariant.1,
 )
+
+pub returns-in-Err : goal.returns-in-Err
+returns-in-Err g c =
+    let kept = keeps_then _ _ _ (took_keeps _ _ c.args.place c.in-Next.number c.in-Next.command c.in-Next.ensures)
+    (marked_keeps _ _ c.args.place c.mark.ensures) in (
+      marked_made _ _ c.args.place c.mark.ensures,
+      subst (λ (before : List Client). KeepsMade before c.mark.new.clients) (ap (λ x. x.clients) c.self.view_is) kept,
+    )

@@ -1,15 +1,15 @@
 ghost use Rattle.std.specs.Prelude.{◌≡◌, [], ◌∷◌, ◌++◌, length, IsTrue, ◌↔◌, OnOk, OnErr, MatchOption};
 
-use sc_base::NoMemory;
+use sc_base::{NoMemory, Plain};
 use smallvec::SmallVec;
-use std::alloc::Global;
+use std::alloc::{AllocError, Global};
 use std::marker::Model;
 
 /// How many numbers a list keeps in place.
 const NUMBERS_IN_PLACE: usize = 8;
 
 /// A growable list of the numbers of states or of transitions, which contracts see as a list. One of at most 8 numbers
-/// takes no memory beside itself: most microsteps take, exit and enter few.
+/// takes no memory beside itself: most sessions are in few states, and most microsteps take, exit and enter few.
 #[derive(Debug, Drop)]
 pub struct ShortList {
     numbers: SmallVec<u32, NUMBERS_IN_PLACE>,
@@ -65,4 +65,37 @@ impl ShortList {
     {
         self.numbers.pop()
     }
+}
+
+impl Clone for ShortList {
+    ghost is_clone = { λ l copy. copy ≡ l };
+
+    fn clone(&self) -> Result<Self, AllocError> {
+        let numbers = SmallVec::from_slice(*self.numbers.allocator(), self.numbers.as_slice())?;
+        Ok(ShortList { numbers })
+    }
+}
+
+impl Plain for ShortList {
+    ghost clone_equals = { λ l copy same. same };
+}
+
+impl PartialEq for ShortList {
+    ghost use Rattle.std.specs.Prelude.{nat_eq};
+    ghost use Rattle.std.specs.Cmp.{partial_equiv_from_equiv};
+    ghost use Rattle.std.specs.Cmp.Lexicographic.{pointwise, nat_list_eq_equiv};
+
+    ghost eq = { pointwise nat_eq };
+
+    ghost laws = { partial_equiv_from_equiv nat_list_eq_equiv };
+
+    fn eq(&self, other: &ShortList) -> bool {
+        self.numbers.as_slice() == other.numbers.as_slice()
+    }
+}
+
+impl Eq for ShortList {
+    ghost use Rattle.std.specs.Cmp.Lexicographic.{nat_list_eq_equiv};
+
+    ghost laws = { nat_list_eq_equiv };
 }

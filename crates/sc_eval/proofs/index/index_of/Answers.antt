@@ -3,7 +3,7 @@ use Rattle.std.proofs.lemmas.List.{take_more}
 use Rattle.sc_types.specs.declared.value.Value.{Value}
 use Rattle.sc_eval.specs.Places.{IsIndex}
 use Rattle.sc_eval.proofs.Tables.{index-push}
-use Rattle.sc_eval.proofs.data_table.places_of.Goals as goal
+use Rattle.sc_eval.proofs.index.index_of.Goals as goal
 
 pub loop-place-preserved : goal.loop-place-preserved
 loop-place-preserved c =
