@@ -88,8 +88,29 @@ pub enum Change<P> {
 }
 
 impl<P: Drop> Body<P> {
-    /// Makes one change.
+    /// Makes one change. The changes that nearly every command makes stand apart, so that their frame holds none of the
+    /// others.
     fn change(&mut self, change: Change<P>)
+        requires agrees { Agrees self.old }
+        requires can { CanApply (image self.old) change }
+        requires ready { 1 ≤ self.old.ready.spare }
+        requires room { HasRoom 1 self.old (queue_rooms self.old) change }
+        ensures makes { Makes (apply change (image self.old)) self.old self.new }
+        ensures newest { IsNewest self.old self.new change }
+        ensures charts { self.new.charts.items ≡ charts_with change self.old.charts.items }
+    {
+        match change {
+            Change::Count => self.count(),
+            Change::PutState { place, state } => self.put_state(place, state.into_inner()),
+            Change::TakeFront { place } => self.take_front(place),
+            Change::Queue { place, event } => self.queue(place, event),
+            change => self.change_any(change),
+        }
+    }
+
+    /// Makes one change of any kind.
+    #[inline(never)]
+    fn change_any(&mut self, change: Change<P>)
         requires agrees { Agrees self.old }
         requires can { CanApply (image self.old) change }
         requires ready { 1 ≤ self.old.ready.spare }

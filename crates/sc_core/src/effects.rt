@@ -308,6 +308,7 @@ impl<P: Drop> Body<P> {
     }
 
     /// Prepares what one effect of a turn does, and notes what becomes of it.
+    #[inline(never)]
     pub(crate) fn draft_effect(
         &self,
         alloc: Global,

@@ -242,6 +242,7 @@ impl<P: Drop> Body<P> {
 
     /// Prepares what goes with the end of the session at a place: it is cleared, its children are cancelled, and its
     /// invoker is told.
+    #[inline(never)]
     fn draft_over(
         &self,
         alloc: Global,

@@ -34,6 +34,7 @@ fn is_of(turned: &Turned, chart: &Chart, before: &SessionState, cue: &Cue) -> bo
 
 /// Whether a turn is the one that the session at a place takes, which has this cue and whose internal queue is in one
 /// part.
+#[inline(never)]
 fn is_turn_of<E: Engine>(body: &Body<E::Plan>, place: usize, cue: &Cue, turned: &Turned) -> bool
     requires held { IsHeld E.chart_of body.now }
     requires within { place < length body.now.sessions.items }

@@ -64,6 +64,7 @@ impl<P: Drop> Body<P> {
     }
 
     /// Prepares that a session is flagged, so that its next turn ends it.
+    #[inline(never)]
     pub(crate) fn draft_cancel(
         &self,
         alloc: Global,

@@ -30,6 +30,7 @@ impl<P: Drop> Body<P> {
     }
 
     /// Prepares that a chart is installed.
+    #[inline(never)]
     pub(crate) fn draft_install<E: Engine<Plan = P>>(
         &self,
         alloc: Global,
@@ -83,6 +84,7 @@ impl<P: Drop> Body<P> {
     }
 
     /// Prepares that a session is started.
+    #[inline(never)]
     pub(crate) fn draft_start(
         &self,
         alloc: Global,

@@ -181,6 +181,7 @@ impl<P: Drop> Body<P> {
     }
 
     /// Prepares that the clock advances, and what comes due is sent.
+    #[inline(never)]
     pub(crate) fn draft_tick(&self, alloc: Global, ticks: u64) -> Result<Prepared<P>, NoMemory>
         requires agrees { Agrees self.now }
         requires commands { self.now.commands + 1 < 2 ^ 64 }

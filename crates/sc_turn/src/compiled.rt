@@ -144,6 +144,7 @@ fn run(
 }
 
 /// Initialises the data, and enters the document.
+#[inline(never)]
 fn start(
     alloc: Global,
     x: &mut RunState,

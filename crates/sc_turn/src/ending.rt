@@ -15,6 +15,7 @@ use sc_types::{Data, How, Phase, SessionState};
 use std::alloc::Global;
 
 /// Exits what is active, for a session that ends.
+#[inline(never)]
 pub(crate) fn exit_active(alloc: Global, x: &mut RunState, t: &Tables) -> Result<Data, NoMemory>
     requires { IsOver t.now x.old }
     ensures value { IfOk result (λ found. (gone : exit_all t.now (state_of x.old).running

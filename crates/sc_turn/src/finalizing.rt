@@ -45,6 +45,7 @@ pub(crate) fn finalize(
 
 /// The invokes of one state.
 #[tactic(auto, using(sc_select::proofs::RunLemmas::runs))]
+#[inline(never)]
 fn finalize_in(
     alloc: Global,
     run: &mut Running,

@@ -51,6 +51,7 @@ fn start_all(alloc: Global, run: &mut Running, t: &Tables) -> Result<(), NoMemor
 
 /// Starts the invokes of a state.
 #[tactic(auto, using(sc_select::proofs::RunLemmas::runs))]
+#[inline(never)]
 fn start_of(alloc: Global, run: &mut Running, t: &Tables, s: u32) -> Result<(), NoMemory>
     requires run { IsRunOf t.now run.old }
     requires s { s < state_count t.now }
