@@ -1,5 +1,6 @@
 //! Tests of texts, and of what is small enough to be compared as a text: names, plain data, expressions, values,
-//! delays, event descriptors, rows, fields, timers and links. Worked examples, and each call once with ample memory.
+//! delays, event descriptors, rows, fields, containers with room, timers and links. Worked examples, and each call once
+//! with ample memory.
 #![tactic(auto)]
 
 #[cfg(test)]
@@ -15,7 +16,11 @@ mod names;
 #[cfg(test)]
 mod plain_data;
 #[cfg(test)]
+mod ranks;
+#[cfg(test)]
 mod recipes;
+#[cfg(test)]
+mod rooms;
 #[cfg(test)]
 mod rows;
 #[cfg(test)]

@@ -1,18 +1,27 @@
-use sc_base::{Name, Plain, PlainName, Unfit, Word, is_plain_name};
+use sc_base::{Name, NoMemory, Plain, PlainName, Unfit, Word, is_plain_name};
+use std::alloc::Global;
 use std::test::Fail;
 
 #[test]
 fn a_name_may_have_a_hash_and_a_word_may_not(rt: HostRuntime) -> Result<(), Fail> {
     assert_eq!(rt; Word::of(rt.alloc(), b"a#").map(|_| ()), Err(Unfit::Form));
-    let name = Name::of(rt.alloc(), b"a#")?;
-    let copy = name.copy()?;
+    let copy = Name::of(rt.alloc(), b"a#")?.copy()?;
     assert_eq!(rt; copy.bytes(), b"a#".as_slice());
-    assert!(rt; copy == name);
     Ok(())
 }
 
+/// Whether bytes are a name, a word and a plain name, by making them and by asking.
+fn forms(alloc: Global, bytes: &[u8]) -> [bool; 4] {
+    [
+        Name::of(alloc, bytes).is_ok(),
+        Word::of(alloc, bytes).is_ok(),
+        PlainName::of(alloc, bytes).is_ok(),
+        is_plain_name(bytes),
+    ]
+}
+
 #[test]
-fn each_text_type_takes_its_form(rt: HostRuntime) -> Result<(), Fail> {
+fn each_text_type_takes_its_form(rt: HostRuntime) {
     for (text, is_name, is_plain) in [
         ("door", true, true),
         ("_1", true, true),
@@ -25,21 +34,23 @@ fn each_text_type_takes_its_form(rt: HostRuntime) -> Result<(), Fail> {
         ("a'b", false, false),
         ("a\u{7f}", false, false),
     ] {
-        let bytes = text.as_bytes();
-        assert_eq!(rt; Name::of(rt.alloc(), bytes).is_ok(), is_name, "{text}");
-        assert_eq!(rt; Word::of(rt.alloc(), bytes).is_ok(), is_name, "{text}");
-        assert_eq!(rt;
-            PlainName::of(rt.alloc(), bytes).is_ok(),
-            is_plain,
-            "{text}"
-        );
-        assert_eq!(rt; is_plain_name(bytes), is_plain, "{text}");
+        let found = forms(rt.alloc(), text.as_bytes());
+        assert_eq!(rt; found, [is_name, is_name, is_plain, is_plain], "{text}");
     }
+}
+
+/// The name of the copy of a word.
+fn copied(word: &Word) -> Result<Name, NoMemory> {
+    word.copy()?.name()
+}
+
+#[test]
+fn texts_are_copied(rt: HostRuntime) -> Result<(), Fail> {
     let word = Word::of(rt.alloc(), b"door")?;
-    assert_eq!(rt; word.name()?.bytes(), word.bytes());
-    assert!(rt; word.copy()? == word);
-    let plain = PlainName::of(rt.alloc(), b"open")?;
-    assert!(rt; plain.copy()? == plain);
-    assert_eq!(rt; plain.bytes(), b"open".as_slice());
+    let plain = PlainName::of(rt.alloc(), b"open")?.copy()?;
+    assert_eq!(rt;
+        [copied(&word)?.bytes(), plain.bytes()],
+        [b"door".as_slice(), b"open".as_slice()]
+    );
     Ok(())
 }

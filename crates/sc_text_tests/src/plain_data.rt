@@ -20,43 +20,49 @@ fn small(alloc: Global, text: &str) -> Result<SharedBytes, NoMemory> {
 #[test]
 fn a_sequence_is_a_list(rt: HostRuntime) -> Result<(), Fail> {
     let mut list: Sequence<u32> = Sequence::new(rt.alloc());
-    assert!(rt; list.is_empty());
-    assert_eq!(rt; list.pop(), None);
     for item in [3, 1, 2] {
         list.push(item)?;
     }
-    assert_eq!(rt; list.len(), 3);
-    assert_eq!(rt; list.get(1).copied(), Some(1));
-    assert_eq!(rt; list.get(3).copied(), None);
     *list.item_mut(1) = 7;
-    assert_eq!(rt; list.slice(), [3, 7, 2].as_slice());
     let copy = list.copy()?;
-    assert!(rt; copy == list);
-    assert_eq!(rt; list.pop(), Some(2));
-    assert!(rt; copy != list);
-    assert_eq!(rt;
-        Sequence::from_vec(copy.into_vec()).slice(),
-        [3, 7, 2].as_slice()
-    );
+    let found = [
+        list.get(1).copied(),
+        list.get(3).copied(),
+        list.pop(),
+        list.pop(),
+        list.pop(),
+        list.pop(),
+    ];
+    assert_eq!(rt; found, [Some(7), None, Some(2), Some(7), Some(3), None]);
+    assert_eq!(rt; copy.into_vec().as_slice(), [3, 7, 2].as_slice());
     Ok(())
 }
 
 #[test]
 fn a_queue_gives_what_came_first(rt: HostRuntime) -> Result<(), Fail> {
     let mut queue: Queue<u32> = Queue::new(rt.alloc());
-    assert!(rt; queue.is_empty());
-    assert_eq!(rt; queue.front().copied(), None);
-    for item in [3, 1, 2] {
+    for item in [3, 1] {
         queue.push(item)?;
     }
-    assert_eq!(rt; queue.len(), 3);
-    assert_eq!(rt; queue.front().copied(), Some(3));
-    assert_eq!(rt; queue.get(2).copied(), Some(2));
     let copy = queue.copy()?;
-    assert!(rt; copy == queue);
-    assert_eq!(rt; queue.pop_front(), Some(3));
-    assert!(rt; copy != queue);
+    let found = [
+        queue.front().copied(),
+        queue.get(1).copied(),
+        queue.pop_front(),
+        queue.pop_front(),
+        queue.pop_front(),
+    ];
+    assert_eq!(rt; found, [Some(3), Some(1), Some(3), Some(1), None]);
+    assert_eq!(rt; [queue.len(), copy.len()], [0, 2]);
     Ok(())
+}
+
+/// How long the bytes of a text are that were copied, and grew by one and by the text.
+fn grown(alloc: Global, text: &str) -> Result<usize, Fail> {
+    let mut grown = bytes(alloc, text)?.copy()?;
+    grown.push(b'!')?;
+    grown.extend(text.as_bytes())?;
+    Ok(grown.len())
 }
 
 #[test]
@@ -70,13 +76,8 @@ fn bytes_are_copied_whole_at_each_length(rt: HostRuntime) -> Result<(), Fail> {
     ] {
         let copy = small(rt.alloc(), text)?.copy()?;
         assert_eq!(rt; copy.slice(), text.as_bytes());
-        assert_eq!(rt; copy.is_empty(), text.is_empty());
-        let mut grown = bytes(rt.alloc(), text)?.copy()?;
-        grown.push(b'!')?;
-        grown.extend(text.as_bytes())?;
-        assert_eq!(rt; grown.len(), 2 * text.len() + 1);
+        assert_eq!(rt; grown(rt.alloc(), text)?, 2 * text.len() + 1);
     }
-    assert!(rt; SharedBytes::empty().is_empty());
     Ok(())
 }
 
@@ -90,7 +91,6 @@ fn a_writer_puts_texts_and_numbers(rt: HostRuntime) -> Result<(), Fail> {
     out.bytes(b"!")?;
     out.end_line()?;
     let wanted = b"= posted 340282366920938463463374607431768211455 -9223372036854775808!\n";
-    assert_eq!(rt; out.slice(), wanted.as_slice());
     assert_eq!(rt; out.into_bytes().slice(), wanted.as_slice());
     Ok(())
 }
@@ -176,11 +176,14 @@ fn a_copy_of_an_entry_equals_it(rt: HostRuntime) -> Result<(), Fail> {
 #[test]
 fn an_attribute_is_found_by_its_name(rt: HostRuntime) -> Result<(), Fail> {
     let copy = chart(rt.alloc(), "a")?.copy()?;
-    assert_eq!(rt; copy.root.kids.len(), 1);
-    let log = &copy.root.kids.slice()[0];
-    assert!(rt; log.has(Attribute::Expr));
-    assert!(rt; log.expr(Attribute::Expr).is_some());
-    assert!(rt; log.text(Attribute::Label).is_none());
-    assert!(rt; log.words(Attribute::Event).is_empty());
+    for log in copy.root.kids.slice() {
+        let found = [
+            log.has(Attribute::Expr),
+            log.expr(Attribute::Expr).is_some(),
+            log.text(Attribute::Label).is_some(),
+            !log.words(Attribute::Event).is_empty(),
+        ];
+        assert_eq!(rt; found, [true, true, false, false]);
+    }
     Ok(())
 }

@@ -1,59 +1,45 @@
+use sc_base::NoMemory;
 use sc_bits::Row;
+use std::alloc::Global;
 use std::test::Fail;
+
+/// A row of a width with two members.
+fn row(alloc: Global, width: u32, first: u32, second: u32) -> Result<Row, NoMemory> {
+    let mut row = Row::new(alloc, width)?;
+    if first < width && second < width {
+        row.add(first);
+        row.add(second);
+    }
+    Ok(row)
+}
 
 #[test]
 fn a_row_gives_its_members_in_order(rt: HostRuntime) -> Result<(), Fail> {
-    let mut row = Row::new(rt.alloc(), 70)?;
-    row.add(3);
-    row.add(69);
-    assert_eq!(rt; row.next(4), Some(69));
-    assert_eq!(rt; row.next(70), None);
-    let copy = row.copy(rt.alloc())?;
-    assert_eq!(rt; copy.next(0), Some(3));
-    assert_eq!(rt; copy.next(4), Some(69));
-    assert!(rt; row.has(3) && !row.has(68));
+    let copy = row(rt.alloc(), 70, 3, 69)?.copy(rt.alloc())?;
+    let found = [copy.next(0), copy.next(4), copy.next(70)];
+    assert_eq!(rt; found, [Some(3), Some(69), None]);
+    assert_eq!(rt; [copy.has(3), copy.has(68)], [true, false]);
     Ok(())
 }
 
 #[test]
 fn rows_are_joined_met_and_parted(rt: HostRuntime) -> Result<(), Fail> {
-    let mut a = Row::new(rt.alloc(), 130)?;
-    let mut b = Row::new(rt.alloc(), 130)?;
-    a.add(0);
-    a.add(64);
-    b.add(64);
-    b.add(129);
-    assert!(rt; a.meets(&b));
+    let a = row(rt.alloc(), 130, 0, 64)?;
+    let b = row(rt.alloc(), 130, 64, 129)?;
     let mut c = a.copy(rt.alloc())?;
     c.join(&b);
-    assert_eq!(rt; c.next(65), Some(129));
+    let joined = c.next(65);
     c.minus(&b);
-    assert_eq!(rt; c.next(1), None);
-    assert!(rt; !c.meets(&b));
+    let parted = c.next(1);
     c.copy_from(&a);
     c.meet(&b);
-    assert_eq!(rt; c.next(0), Some(64));
+    let met = c.next(0);
     c.take(64);
-    assert_eq!(rt; c.next(0), None);
-    a.clear();
-    assert_eq!(rt; a.next(0), None);
-    Ok(())
-}
-
-#[test]
-fn the_active_states_below_a_domain_are_exited(rt: HostRuntime) -> Result<(), Fail> {
-    let mut active = Row::new(rt.alloc(), 7)?;
-    active.add(0);
-    active.add(1);
-    active.add(2);
-    active.add(3);
-    active.add(4);
-    let mut exited = Row::new(rt.alloc(), 7)?;
-    assert_eq!(rt; exited.next(0), None);
-    exited.add(4);
-    exited.add(5);
-    exited.meet(&active);
-    assert_eq!(rt; exited.next(0), Some(4));
-    assert_eq!(rt; exited.next(5), None);
+    assert_eq!(rt;
+        [joined, parted, met, c.next(0)],
+        [Some(129), None, Some(64), None]
+    );
+    c.clear();
+    assert_eq!(rt; [a.meets(&b), a.meets(&c)], [true, false]);
     Ok(())
 }

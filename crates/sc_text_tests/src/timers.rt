@@ -40,29 +40,38 @@ fn three(alloc: Global) -> Result<Timers, Fail> {
     Ok(timers)
 }
 
+/// The number of the send that is taken out as due.
+fn taken(timers: &mut Timers, clock: u64) -> Option<u64> {
+    timers.take_due(clock).map(|send| send.number)
+}
+
 #[test]
 fn sends_come_by_due_time_and_then_by_number(rt: HostRuntime) -> Result<(), Fail> {
     let mut timers = three(rt.alloc())?;
-    assert_eq!(rt; timers.get(2).map(|send| send.number), Some(1));
-    assert!(rt; timers.get(3).is_none());
-    assert!(rt; timers.take_due(4).is_none());
-    for number in [2, 3, 1] {
-        assert_eq!(rt; timers.take_due(9).map(|send| send.number), Some(number));
-    }
-    assert!(rt; timers.take_due(9).is_none());
+    let last = timers.get(2).map(|send| send.number);
+    let found = [
+        taken(&mut timers, 4),
+        taken(&mut timers, 9),
+        taken(&mut timers, 9),
+        taken(&mut timers, 9),
+        taken(&mut timers, 9),
+    ];
+    assert_eq!(rt; last, Some(1));
+    assert_eq!(rt; found, [None, Some(2), Some(3), Some(1), None]);
     Ok(())
 }
 
 #[test]
 fn sends_are_cancelled_by_id_and_discarded_by_session(rt: HostRuntime) -> Result<(), Fail> {
     let mut timers = three(rt.alloc())?;
-    assert_eq!(rt; timers.count(b"s", b"i"), 3);
-    assert_eq!(rt; timers.count(b"s", b"other"), 0);
-    assert_eq!(rt; timers.cancel_all(b"s", b"other"), 0);
-    assert_eq!(rt; timers.discard(b"other"), 0);
-    assert_eq!(rt; timers.cancel_all(b"s", b"i"), 3);
-    let mut timers = three(rt.alloc())?;
-    assert_eq!(rt; timers.discard(b"s"), 3);
-    assert!(rt; timers.take_due(9).is_none());
+    let found = [
+        timers.count(b"s", b"i"),
+        timers.count(b"s", b"other"),
+        timers.cancel_all(b"s", b"other"),
+        timers.discard(b"other"),
+        timers.cancel_all(b"s", b"i"),
+    ];
+    assert_eq!(rt; found, [3, 0, 0, 0, 3]);
+    assert_eq!(rt; three(rt.alloc())?.discard(b"s"), 3);
     Ok(())
 }
