@@ -7,4 +7,5 @@ mod bodies;
 mod hostile;
 #[cfg(test)]
 mod limits;
-pub mod samples;
+#[cfg(test)]
+mod samples;

@@ -10,8 +10,11 @@ mod disks;
 mod doubts;
 #[cfg(test)]
 mod faults;
-pub mod lending;
-pub mod silent;
-pub mod steps;
+#[cfg(test)]
+mod lending;
+#[cfg(test)]
+mod silent;
+#[cfg(test)]
+mod steps;
 #[cfg(test)]
 mod stops;
