@@ -16,6 +16,7 @@ pub mod HandedLemmas
 pub mod HeldLemmas
 pub mod InstallLemmas
 pub mod InvokeLemmas
+pub mod KeptLemmas
 pub mod LeftLemmas
 pub mod LengthLemmas
 pub mod LoopLemmas

@@ -14,10 +14,12 @@ pub mod FittingHosts
 pub mod Histories
 pub mod Hosts
 pub mod Inputs
+pub mod Keeping
 pub mod Installing
 pub mod Newborns
 pub mod Parting
 pub mod Preparing
+pub mod Showing
 pub mod Stepping
 pub mod Ticking
 pub mod Waiting

@@ -1,7 +1,9 @@
 ghost use Rattle.std.specs.Prelude.{◌≡◌, ◌+◌, ◌<◌, ◌≤◌, ◌↔◌, [], ◌∷◌, ◌++◌, slice_get, length, IsTrue, OnOk};
-ghost use Rattle.std.specs.Option.{option_copied};
+ghost use Rattle.std.specs.Option.{option_map};
 ghost use Rattle.sc_core.specs.Accepted.{accepted_steps, is_accepted_step};
+ghost use Rattle.sc_core.specs.Showing.{shown_entry};
 
+use crate::kept::{Shown, Store};
 use sc_base::NoMemory;
 use sc_types::{Command, Entry, Reply};
 use std::alloc::Global;
@@ -11,13 +13,12 @@ use std::marker::Model;
 /// added, so that a command which was acknowledged is never left out for want of memory.
 #[derive(Debug, Drop)]
 pub struct History {
-    entries: Vec<Entry>,
+    store: Store,
     /// How many of them are accepted steps.
     steps: u64,
 }
 
 impl Model for History {
-    ghost use Rattle.std.specs.Prelude.{◌≡◌, ◌-◌, length, vec_capacity};
     ghost use Rattle.sc_core.specs.Closing.{HistoryOf};
     ghost use Rattle.sc_types.specs.contracts.history.Entry as entry_type;
     ghost use Rattle.std.specs.Coded.{codes};
@@ -26,11 +27,11 @@ impl Model for History {
 
     ghost coded = { Prim.hlevel (codes, entry_type.the_row.coded) };
 
-    ghost use Rattle.sc_core.specs.Accepted.{accepted_steps};
+    ghost use Rattle.sc_core.specs.Keeping.{IsKept, entries_of, spare_of};
 
-    ghost view = { λ h. record { entries = h.entries.items; spare = vec_capacity h.entries - length h.entries.items } };
+    ghost view = { λ h. record { entries = entries_of h.store; spare = spare_of h.store } };
 
-    ghost invariant = { λ h. h.steps ≡ accepted_steps h.entries.items };
+    ghost invariant = { λ h. IsKept h.store h.steps };
 }
 
 /// Whether an entry is a step that was accepted.
@@ -49,7 +50,7 @@ impl History {
         ensures { result ≡ record { entries = []; spare = 0 } }
     {
         History {
-            entries: Vec::new(alloc),
+            store: Store::new(alloc),
             steps: 0,
         }
     }
@@ -60,8 +61,7 @@ impl History {
         ensures spare { self.old.spare ≤ self.new.spare }
         ensures ok { OnOk result (1 ≤ self.new.spare) }
     {
-        self.entries.reserve(1)?;
-        Ok(())
+        self.store.reserve()
     }
 
     /// Adds an entry behind the others.
@@ -73,10 +73,7 @@ impl History {
         if is_accepted_step(&entry) {
             self.steps += 1;
         }
-        match self.entries.push(entry) {
-            Ok(()) => {}
-            Err(_) => unreachable!(),
-        }
+        self.store.push(entry);
     }
 
     /// How many entries are steps that were accepted.
@@ -89,25 +86,19 @@ impl History {
     pub fn len(&self) -> usize
         ensures { result ≡ length self.now.entries }
     {
-        self.entries.len()
+        self.store.len()
     }
 
     pub fn is_empty(&self) -> bool
         ensures { IsTrue result ↔ (self.now.entries ≡ []) }
     {
-        self.entries.is_empty()
+        self.store.len() == 0
     }
 
     /// The entry at a place, counted from 0; `None` where there is none.
-    pub fn get(&self, place: usize) -> Option<&Entry>
-        ensures { option_copied result ≡ slice_get self.now.entries place }
+    pub fn get(&self, place: usize) -> Option<Shown<'_>>
+        ensures { option_map shown_entry result ≡ slice_get self.now.entries place }
     {
-        self.entries.get(place)
-    }
-
-    pub fn slice(&self) -> &[Entry]
-        ensures { result.now ≡ self.now.entries }
-    {
-        self.entries.as_slice()
+        self.store.get(place)
     }
 }

@@ -1,17 +1,20 @@
-ghost use Rattle.std.specs.Prelude.{◌++◌, decimal, codes};
+ghost use Rattle.std.specs.Prelude.{◌≡◌, ◌+◌, ◌<◌, ◌++◌, Some, codes, decimal, length, slice_get};
 ghost use Rattle.std.specs.List.{flat_map};
-ghost use Rattle.sc_report.specs.Lines.{line, command_text};
+ghost use Rattle.sc_core.specs.Showing.{posted_entry, shown_entry, stepped_entry};
+ghost use Rattle.sc_report.specs.Lines.{line};
 ghost use Rattle.sc_report.specs.Outlets.{Writes};
 ghost use Rattle.sc_report.specs.Entries.{who_text, reply_text, log_text, delivery_text, entry_text, entries_text, what_text};
+ghost use Rattle.sc_types.specs.declared.history.Entry.{Entry as EntryOf};
 
-use crate::lines::put_command;
+use crate::lines::{put_command, put_post};
 use crate::outlet::Outlet;
 use crate::replies::{put_reply, put_who};
 use crate::values::{put_text, put_value};
 use itoa::Buffer;
 use sc_base::Word;
+use sc_core::{History, Shown};
 use sc_dev::Sink;
-use sc_types::{Command, Delivery, Entry, LogLine, Reply, Who};
+use sc_types::{CueName, Delivery, Entry, LogLine, Reply, Who};
 
 fn put_log<K: Sink>(out: &mut Outlet<'_, K>, log: &LogLine)
     ensures { Writes K.taken K.faults out.old out.new (log_text log.now) }
@@ -95,17 +98,15 @@ fn put_deliveries<K: Sink>(out: &mut Outlet<'_, K>, sent: &[Delivery])
     }
 }
 
-/// The line of a command that has this number in its history.
-fn put_command_line<K: Sink>(out: &mut Outlet<'_, K>, number: usize, who: Who, command: &Command)
+/// What the line of a command begins with that has this number in its history.
+fn put_heading<K: Sink>(out: &mut Outlet<'_, K>, number: usize, who: Who)
     ensures { Writes K.taken K.faults out.old out.new
-        (line (decimal number ++ codes " " ++ who_text who ++ codes " " ++ command_text command.now)) }
+        (decimal number ++ codes " " ++ who_text who ++ codes " ") }
 {
     out.number(number);
     out.bytes(b" ");
     put_who(out, who);
     out.bytes(b" ");
-    put_command(out, command);
-    out.end_line();
 }
 
 fn put_reply_line<K: Sink>(out: &mut Outlet<'_, K>, reply: &Reply)
@@ -119,16 +120,86 @@ fn put_reply_line<K: Sink>(out: &mut Outlet<'_, K>, reply: &Reply)
 fn put_entry<K: Sink>(out: &mut Outlet<'_, K>, number: usize, entry: &Entry)
     ensures { Writes K.taken K.faults out.old out.new (entry_text number entry.now) }
 {
-    put_command_line(out, number, entry.who, &entry.command);
+    put_heading(out, number, entry.who);
+    put_command(out, &entry.command);
+    out.end_line();
     put_reply_line(out, &entry.reply);
     put_logs(out, entry.logs.slice());
     put_deliveries(out, entry.sent.slice());
 }
 
-pub(crate) fn put_entries<K: Sink>(out: &mut Outlet<'_, K>, history: &[Entry])
-    ensures { Writes K.taken K.faults out.old out.new (entries_text 1 history.now) }
+/// A post without data, and the number of its event.
+fn put_posted<K: Sink>(
+    out: &mut Outlet<'_, K>,
+    number: usize,
+    who: Who,
+    session: &Word,
+    event: &Word,
+    posted: u128,
+)
+    ensures { Writes K.taken K.faults out.old out.new
+        (entry_text number (posted_entry who session.now event.now posted)) }
 {
-    for (place, entry) in history.iter().enumerate() {
-        put_entry(out, place + 1, entry);
+    put_heading(out, number, who);
+    put_post(out, session, event, &[]);
+    out.end_line();
+    put_reply_line(out, &Reply::Posted(posted));
+    put_logs(out, &[]);
+    put_deliveries(out, &[]);
+}
+
+/// A step that neither logged nor sent.
+fn put_stepped<K: Sink>(
+    out: &mut Outlet<'_, K>,
+    number: usize,
+    who: Who,
+    session: &Word,
+    cue: CueName,
+)
+    ensures { Writes K.taken K.faults out.old out.new
+        (entry_text number (stepped_entry who session.now cue)) }
+{
+    put_heading(out, number, who);
+    put_session(out, b"step ", session);
+    out.end_line();
+    put_reply_line(out, &Reply::Stepped(cue));
+    put_logs(out, &[]);
+    put_deliveries(out, &[]);
+}
+
+fn put_shown<K: Sink>(out: &mut Outlet<'_, K>, number: usize, shown: Shown<'_>)
+    ensures { Writes K.taken K.faults out.old out.new (entry_text number (shown_entry shown.entry)) }
+{
+    match shown {
+        Shown::Posted {
+            who,
+            session,
+            event,
+            number: posted,
+        } => put_posted(out, number, who, session, event, posted),
+        Shown::Stepped { who, session, cue } => put_stepped(out, number, who, session, cue),
+        Shown::Whole(entry) => put_entry(out, number, entry),
+    }
+}
+
+/// The entry at a place, counted from 0; its number is one more.
+fn put_entry_at<K: Sink>(out: &mut Outlet<'_, K>, history: &History, place: usize)
+    requires within { place < length history.now.entries }
+    ensures { (e : EntryOf) → slice_get history.now.entries place ≡ Some e
+        → Writes K.taken K.faults out.old out.new (entry_text (place + 1) e) }
+{
+    // A length fits a usize, so the number cannot run out.
+    let _count = history.len();
+    match history.get(place) {
+        Some(shown) => put_shown(out, place + 1, shown),
+        None => unreachable!(),
+    }
+}
+
+pub(crate) fn put_entries<K: Sink>(out: &mut Outlet<'_, K>, history: &History)
+    ensures { Writes K.taken K.faults out.old out.new (entries_text 1 history.now.entries) }
+{
+    for place in 0..history.len() {
+        put_entry_at(out, history, place);
     }
 }

@@ -24,7 +24,7 @@ fn put_pairs<K: Sink>(out: &mut Outlet<'_, K>, pairs: &[(PlainName, Value)])
     }
 }
 
-fn put_post<K: Sink>(
+pub(crate) fn put_post<K: Sink>(
     out: &mut Outlet<'_, K>,
     session: &Word,
     event: &Word,

@@ -92,7 +92,7 @@ fn put_report<D, K: Sink>(out: &mut Outlet<'_, K>, closed: &Closed<Compiled, D>,
         (report closed.now.opened closed.now.host.image closed.now.history.entries end) }
 {
     out.counted_line(b"open ", closed.opened);
-    put_entries(out, closed.history.slice());
+    put_entries(out, &closed.history);
     out.counted_line(b"sessions ", closed.host.count());
     put_sessions(out, &closed.host);
     put_clock(out, &closed.host);

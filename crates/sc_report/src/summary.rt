@@ -11,11 +11,10 @@ ghost use Rattle.sc_report.specs.Summary.{summary, total};
 use crate::end::End;
 use crate::outlet::Outlet;
 use crate::report::put_end;
-use crate::totals::{accepted_steps, total};
-use sc_core::{Closed, HostState};
+use crate::totals::total;
+use sc_core::{Closed, History, HostState};
 use sc_dev::{Failed, Sink};
 use sc_turn::Compiled;
-use sc_types::Entry;
 
 /// Writes the summary of the run of a script that was drawn from a number and has so many drawn commands: the number of
 /// entries, that of the steps that the host accepted, what the script's sessions counted, and the word for how the run
@@ -68,7 +67,7 @@ fn put_summary<D, K: Sink>(
         (summary number size closed.now.host.image closed.now.history.entries end) }
 {
     put_drawn(out, number, size);
-    put_counts(out, closed.history.slice(), &closed.host);
+    put_counts(out, &closed.history, &closed.host);
     put_end(out, end);
 }
 
@@ -82,14 +81,14 @@ fn put_drawn<K: Sink>(out: &mut Outlet<'_, K>, number: u64, size: u32)
     out.end_line();
 }
 
-fn put_counts<K: Sink>(out: &mut Outlet<'_, K>, entries: &[Entry], host: &HostState<Compiled>)
-    ensures { Writes K.taken K.faults out.old out.new (line (codes "entries " ++ decimal (length entries.now)
-        ++ codes " steps " ++ decimal (accepted_steps entries.now)
+fn put_counts<K: Sink>(out: &mut Outlet<'_, K>, history: &History, host: &HostState<Compiled>)
+    ensures { Writes K.taken K.faults out.old out.new (line (codes "entries " ++ decimal (length history.now.entries)
+        ++ codes " steps " ++ decimal (accepted_steps history.now.entries)
         ++ codes " sum " ++ signed_decimal (total host.now.image.sessions))) }
 {
-    out.counted(b"entries ", entries.len());
+    out.counted(b"entries ", history.len());
     out.bytes(b" steps ");
-    out.number(accepted_steps(entries));
+    out.number(history.steps());
     out.bytes(b" sum ");
     put_total(out, total(host));
     out.end_line();

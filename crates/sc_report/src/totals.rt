@@ -1,35 +1,11 @@
-ghost use Rattle.std.specs.Prelude.{◌≡◌, ◌<◌, Some, count_by, length, slice_get};
-ghost use Rattle.sc_types.specs.declared.history.Entry.{Entry};
+ghost use Rattle.std.specs.Prelude.{◌≡◌, ◌<◌, Some, length, slice_get};
 ghost use Rattle.sc_types.specs.declared.host.SessionImage.{SessionImage};
-ghost use Rattle.sc_core.specs.Accepted.{accepted_steps, is_accepted_step};
 ghost use Rattle.sc_report.specs.Summary.{counted, counted_live, counted_of, integer_of, is_drawn, total};
 
 use sc_base::PlainName;
 use sc_core::HostState;
 use sc_turn::Compiled;
-use sc_types::{Command, Entry, Phase, Reply, SessionState, Value};
-
-/// How many steps of a history the host accepted.
-pub(crate) fn accepted_steps(entries: &[Entry]) -> u64
-    ensures { result ≡ accepted_steps entries.now }
-{
-    let mut steps = 0;
-    for entry in entries {
-        if is_accepted_step(entry) {
-            steps += 1;
-        }
-    }
-    steps
-}
-
-fn is_accepted_step(entry: &Entry) -> bool
-    ensures { result ≡ is_accepted_step entry.now.command entry.now.reply }
-{
-    match (&entry.command, &entry.reply) {
-        (Command::Step { .. }, Reply::Stepped(_)) => true,
-        _ => false,
-    }
-}
+use sc_types::{Phase, SessionState, Value};
 
 /// What the sessions of a drawn script have counted. A session counts less than 2^63, and there are less than 2^64.
 pub(crate) fn total(host: &HostState<Compiled>) -> i128

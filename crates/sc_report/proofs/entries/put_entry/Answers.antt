@@ -2,4 +2,7 @@ use Rattle.sc_report.proofs.OutletLemmas.{puts_then}
 use Rattle.sc_report.proofs.entries.put_entry.Goals as goal
 
 pub returns : goal.returns
-returns g c = rw (← c.slice.ensures, ← c.slice-2.ensures) (puts_then (puts_then (puts_then c.put_command_line.ensures c.put_reply_line.ensures) c.put_logs.ensures) c.put_deliveries.ensures)
+returns g c =
+    rw (← c.slice.ensures, ← c.slice-2.ensures)
+    (puts_then (puts_then (puts_then (puts_then (puts_then c.put_heading.ensures c.put_command.ensures) c.end_line.ensures)
+    c.put_reply_line.ensures) c.put_logs.ensures) c.put_deliveries.ensures)
