@@ -1,5 +1,5 @@
-//! Tests of the devices and of the program as a whole: worked scripts and charts with what is written of them, byte for
-//! byte, texts that are no scripts, devices that fail in mid-stream, what stops of the machine leave, and runs in threads.
+//! Tests of the devices and of the program as a whole over devices in memory: a script and charts with what is written of
+//! them, words that are no command, devices that fail in mid-stream, what stops of the machine leave, and runs in threads.
 #![tactic(auto)]
 
 #[cfg(test)]
@@ -24,5 +24,3 @@ mod rows;
 mod stops;
 #[cfg(test)]
 mod threads;
-#[cfg(test)]
-mod worked;
