@@ -26,3 +26,7 @@ puts_entry {p} {q} {r} (d ∷ ds) i less h each =
     ap (entries_text 1) (take_more es i d less) ∙ entries_behind 1 (take i es) e
     ∙ ap (λ m. entries_text 1 (take i es) ++ entry_text m e) (omega (arith, size)) in
     subst (Puts p r) (sym more) (puts_then h (each e (slice_get-get_or es i d less)))
+
+-- the entry that is found is this one
+pub same_entry : (a b : Entry) → Some a ≡ Some b → a ≡ b
+same_entry a b is = cc

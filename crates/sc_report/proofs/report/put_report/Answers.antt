@@ -10,5 +10,5 @@ count-requires-sync-E-Plan g c κs = plan_given_sync _
 
 pub returns : goal.returns
 returns g c =
-    rw (← c.slice.ensures, ← c.count.ensures)
+    rw (← c.count.ensures)
     (puts_then (puts_then (puts_then (puts_then (puts_then c.counted_line.ensures c.put_entries.ensures) c.counted_line-2.ensures) c.put_sessions.ensures) c.put_clock.ensures) c.put_end.ensures)

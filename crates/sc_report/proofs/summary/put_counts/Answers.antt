@@ -12,6 +12,6 @@ returns g c =
     let same : to_z w128 (of_z w128 c.total.result) ≡ c.total.result = omega (arith, ints, fits) in
     let put = subst (λ (z : ℤ). Puts (seen g.K.Sink.taken g.K.Sink.faults c.bytes-2.new.self)
     (seen g.K.Sink.taken g.K.Sink.faults c.put_total.new.out) (signed_decimal z)) same c.put_total.ensures in
-    rw (← c.steps.ensures, ← c.total.ensures)
+    rw (← c.len.ensures, ← c.steps.ensures, ← c.total.ensures)
     (puts_then (puts_then (puts_then (puts_then (puts_then c.counted.ensures c.bytes.ensures) c.number.ensures) c.bytes-2.ensures)
     put) c.end_line.ensures)
