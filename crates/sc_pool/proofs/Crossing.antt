@@ -64,6 +64,8 @@ use Rattle.sc_core.specs.contracts.history.History as history
 use Rattle.sc_core.specs.contracts.history.History.TheInside as in_history
 use Rattle.sc_core.specs.contracts.host_state.HostState as host
 use Rattle.sc_core.specs.contracts.host_state.HostState.TheInside as in_host
+use Rattle.sc_core.specs.contracts.kept.Kept as short_entry
+use Rattle.sc_core.specs.contracts.kept.Store as store
 use Rattle.sc_core.specs.contracts.session.Session as session
 use Rattle.sc_book.specs.contracts.book.Book as book
 use Rattle.sc_book.specs.contracts.book.Book.TheInside as in_book
@@ -249,9 +251,15 @@ module _ (P : RattleType) (send : IsSend P) (sync : IsSync P) where
 
 -- ---- the book
 
+short_entry_send : IsSend short_entry.the_row
+short_entry_send = search (who_send, base, crosses, sendable) depth 60 fits 60000
+
+store_send : IsSend store.the_row
+store_send = declared_send store.the_type
+    (search (short_entry_send, crosses, sendable) depth 20, (search (entry_send, crosses, sendable) depth 20, tt))
+
 history_send : IsSend history.the_row
-history_send = view_send _ _ _ _ _ (declared_send in_history.the_type
-    (search (entry_send, crosses, sendable) depth 20, (search sendable, tt)))
+history_send = view_send _ _ _ _ _ (declared_send in_history.the_type (store_send, (search sendable, tt)))
 
 doubt_send : IsSend doubt.the_row
 doubt_send = declared_send doubt.the_type (who_send, (command_send, (search sendable, tt)))
