@@ -23,6 +23,7 @@ fn a_sequence_is_a_list(rt: HostRuntime) -> Result<(), Fail> {
     for item in [3, 1, 2] {
         list.push(item)?;
     }
+    assert_eq!(rt; list.len(), 3);
     *list.item_mut(1) = 7;
     let copy = list.copy()?;
     let found = [
