@@ -20,6 +20,7 @@ impl Parts {
     }
 
     /// The file of a part. At its first use it is opened, and made where it is not there.
+    #[inline(always)]
     pub(crate) fn opened(&mut self, rt: &HostRuntime, part: Part) -> io::Result<&File> {
         let place = match part {
             Part::Journal => &mut self.journal,
@@ -43,6 +44,8 @@ fn name_of(part: Part) -> &'static str {
 
 // A file that was made may be gone after a stop until its directory was synced. The one that is found may have been
 // made by a run that was stopped before that, so the directory is synced either way.
+#[cold]
+#[inline(never)]
 fn open(rt: &HostRuntime, name: &str) -> io::Result<File> {
     let file = OpenOptions::new()
         .read(true)

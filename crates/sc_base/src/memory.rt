@@ -22,6 +22,9 @@ impl From<AllocError> for NoMemory {
 }
 
 impl<T: Drop> From<AllocFailed<T>> for NoMemory {
+    /// Out of line, so that a caller holds none of the code that drops what had no room.
+    #[cold]
+    #[inline(never)]
     fn from(_error: AllocFailed<T>) -> NoMemory {
         NoMemory
     }

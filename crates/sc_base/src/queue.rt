@@ -85,6 +85,10 @@ impl<T: Clone> Clone for Queue<T> {
     ghost is_clone = { λ s t. ((x y : T) → T.is_clone x y → y ≡ x) → t ≡ s };
 
     fn clone(&self) -> Result<Self, AllocError> {
+        // Most queues are empty at most times.
+        if self.items.is_empty() {
+            return Ok(Queue::new(*self.items.allocator()));
+        }
         Ok(Queue {
             items: self.items.clone()?,
         })

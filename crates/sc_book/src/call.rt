@@ -30,6 +30,7 @@ impl<'e, E: Engine, D: Disk> Book<'e, E, D> {
     /// Four device calls are made for an accepted command, and two before it where an earlier fault left a command in
     /// doubt. All memory is taken before the first of the four. A command with a value past the limits of values is
     /// answered as being out of memory where the host would accept it.
+    #[inline(always)]
     pub fn call(&mut self, alloc: Global, who: Who, command: Command) -> Result<Receipt, CallFault>
         ensures ok { IfOk result (Acknowledges who command self.old self.new) }
         ensures err { OnErr result (IsUnanswered self.old self.new) }

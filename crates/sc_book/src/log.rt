@@ -41,6 +41,7 @@ impl Log {
     }
 
     /// Adds an entry that ended at this moment of the disk.
+    #[inline(always)]
     pub(crate) fn enter(&mut self, entry: Entry, moment: u64)
         requires { HasRoom self.old }
         ensures history { self.new.history.entries ≡ self.old.history.entries ++ entry ∷ [] }

@@ -18,7 +18,8 @@ pub(crate) fn attributes(tag: Tag) -> &'static [Attribute]
             Attribute::Xmlns,
         ],
         Tag::State => &[Attribute::Id, Attribute::Initial],
-        Tag::Parallel | Tag::Final => &[Attribute::Id],
+        Tag::Parallel => &[Attribute::Id],
+        Tag::Final => &[Attribute::Id],
         Tag::History => &[Attribute::Id, Attribute::Type],
         Tag::Transition => &[
             Attribute::Cond,
@@ -38,7 +39,8 @@ pub(crate) fn attributes(tag: Tag) -> &'static [Attribute]
             Attribute::Type,
         ],
         Tag::Raise => &[Attribute::Event],
-        Tag::If | Tag::ElseIf => &[Attribute::Cond],
+        Tag::If => &[Attribute::Cond],
+        Tag::ElseIf => &[Attribute::Cond],
         Tag::ForEach => &[Attribute::Array, Attribute::Index, Attribute::Item],
         Tag::Log => &[Attribute::Expr, Attribute::Label],
         Tag::Assign => &[Attribute::Expr, Attribute::Location],
@@ -54,13 +56,7 @@ pub(crate) fn attributes(tag: Tag) -> &'static [Attribute]
             Attribute::Type,
         ],
         Tag::Cancel => &[Attribute::SendId, Attribute::SendIdExpr],
-        Tag::Initial
-        | Tag::OnEntry
-        | Tag::OnExit
-        | Tag::Finalize
-        | Tag::DataModel
-        | Tag::DoneData
-        | Tag::Else => &[],
+        _ => &[],
     }
 }
 
@@ -74,7 +70,8 @@ pub(crate) fn required(tag: Tag) -> &'static [Attribute]
         Tag::Param => &[Attribute::Name],
         Tag::Invoke => &[Attribute::Src],
         Tag::Raise => &[Attribute::Event],
-        Tag::If | Tag::ElseIf => &[Attribute::Cond],
+        Tag::If => &[Attribute::Cond],
+        Tag::ElseIf => &[Attribute::Cond],
         Tag::ForEach => &[Attribute::Array, Attribute::Item],
         Tag::Assign => &[Attribute::Expr, Attribute::Location],
         _ => &[],

@@ -87,7 +87,7 @@ struct Walk {
 }
 
 /// What an element is without its child elements.
-#[derive(Debug, Drop)]
+#[derive(Drop)]
 struct Own {
     tag: Tag,
     members: Sequence<(Bytes, Member)>,

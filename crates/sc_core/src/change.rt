@@ -20,7 +20,7 @@ pub enum Change<P> {
     /// A chart is installed.
     Install {
         name: Word,
-        chart: InstalledChart<P>,
+        chart: Boxed<InstalledChart<P>>,
     },
     /// A session is started.
     Start {
@@ -45,12 +45,12 @@ pub enum Change<P> {
     /// An event joins an external queue under the next number.
     Queue {
         place: usize,
-        event: Event,
+        event: Boxed<Event>,
     },
     /// An event joins an internal queue.
     Tell {
         place: usize,
-        event: Event,
+        event: Boxed<Event>,
     },
     /// The next turn of a session is to end it.
     Flag {
@@ -103,7 +103,7 @@ impl<P: Drop> Body<P> {
             Change::Count => self.count(),
             Change::PutState { place, state } => self.put_state(place, state.into_inner()),
             Change::TakeFront { place } => self.take_front(place),
-            Change::Queue { place, event } => self.queue(place, event),
+            Change::Queue { place, event } => self.queue(place, event.into_inner()),
             change => self.change_any(change),
         }
     }
@@ -122,7 +122,7 @@ impl<P: Drop> Body<P> {
         match change {
             Change::Count => self.count(),
             Change::Advance { clock } => self.advance(clock),
-            Change::Install { name, chart } => self.install_chart(name, chart),
+            Change::Install { name, chart } => self.install_chart(name, chart.into_inner()),
             Change::Start { name, session } => self.start(name, session.into_inner()),
             Change::Bear {
                 invoker,
@@ -131,8 +131,8 @@ impl<P: Drop> Body<P> {
             } => self.bear(invoker, name, session.into_inner()),
             Change::PutState { place, state } => self.put_state(place, state.into_inner()),
             Change::TakeFront { place } => self.take_front(place),
-            Change::Queue { place, event } => self.queue(place, event),
-            Change::Tell { place, event } => self.tell(place, event),
+            Change::Queue { place, event } => self.queue(place, event.into_inner()),
+            Change::Tell { place, event } => self.tell(place, event.into_inner()),
             Change::Flag { place } => self.flag(place),
             Change::CutOff { place } => self.cut_off(place),
             Change::DropInvoke { place, child } => self.drop_invoke(place, &child),

@@ -74,6 +74,7 @@ impl<P: Drop> Body<P> {
     }
 
     /// Replaces the state of the session at a place.
+    #[inline(always)]
     pub(crate) fn put_state(&mut self, place: usize, state: SessionState)
         requires agrees { Agrees self.old }
         requires within { place < length self.old.sessions.items }

@@ -90,7 +90,7 @@ impl<P: Drop> Body<P> {
         if !is_running(&after.phase) {
             return Ok(Delivery::Unreachable);
         }
-        let event = communication_error(alloc, sendid)?;
+        let event = Boxed::new(alloc, communication_error(alloc, sendid)?)?;
         draft.changes.push(Change::Tell { place, event })?;
         Ok(Delivery::Unreachable)
     }
@@ -98,6 +98,7 @@ impl<P: Drop> Body<P> {
     /// Prepares that an event joins the external queue of the session at a place.
     pub(crate) fn draft_queue(
         &self,
+        alloc: Global,
         draft: &mut Draft<P>,
         place: usize,
         session: Word,
@@ -110,6 +111,7 @@ impl<P: Drop> Body<P> {
         }) × (told ≡ Delivery.Queued (draft.old.events + 1) session)) }
     {
         let number = draft.events + 1;
+        let event = Boxed::new(alloc, event)?;
         draft.changes.push(Change::Queue { place, event })?;
         draft.events = number;
         Ok(Delivery::Queued { number, session })
@@ -145,6 +147,7 @@ impl<P: Drop> Body<P> {
         };
         let invokeid = invokeid_for(invoker, name)?;
         self.draft_queue(
+            alloc,
             draft,
             receiver,
             name.copy()?,
@@ -302,7 +305,7 @@ impl<P: Drop> Body<P> {
             }
             Effect::CancelChild { child } => self.draft_cancel_child(draft, place, after, child),
             Effect::Forward { child, event } => {
-                self.draft_forward(draft, place, after, child, event)
+                self.draft_forward(alloc, draft, place, after, child, event)
             }
         }
     }

@@ -186,6 +186,7 @@ impl<P: Drop> Body<P> {
     /// Prepares that the invoker hears of the end of the session at a place.
     fn draft_told(
         &self,
+        alloc: Global,
         draft: &mut Draft<P>,
         place: usize,
         after: &SessionState,
@@ -206,7 +207,7 @@ impl<P: Drop> Body<P> {
             return Ok(Delivery::Dropped);
         }
         match self.live_place(&draft.births, place, after, &invoker.session) {
-            Some(found) => self.draft_queue(draft, found, invoker.session.copy()?, event),
+            Some(found) => self.draft_queue(alloc, draft, found, invoker.session.copy()?, event),
             None => Ok(Delivery::Dropped),
         }
     }
@@ -236,7 +237,7 @@ impl<P: Drop> Body<P> {
         let Some(event) = end_event(alloc, &invoker.invokeid, how)? else {
             return Ok(());
         };
-        let what = self.draft_told(draft, place, after, invoker, event)?;
+        let what = self.draft_told(alloc, draft, place, after, invoker, event)?;
         draft.sent.push(what)
     }
 

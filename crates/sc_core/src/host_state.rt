@@ -95,6 +95,7 @@ impl<E: Engine> HostState<E> {
     }
 
     /// Makes the room that prepared changes need. Out of memory, the host machine is as before.
+    #[inline(always)]
     pub(crate) fn with_room(
         &mut self,
         prepared: Prepared<E::Plan>,

@@ -184,7 +184,7 @@ impl<P: Drop> Body<P> {
         if !is_running(&after.phase) {
             return Ok(Delivery::Unborn);
         }
-        let event = unborn_event(alloc, invokeid)?;
+        let event = Boxed::new(alloc, unborn_event(alloc, invokeid)?)?;
         draft.changes.push(Change::Tell { place, event })?;
         Ok(Delivery::Unborn)
     }
@@ -254,6 +254,7 @@ impl<P: Drop> Body<P> {
     /// Prepares that an event joins the external queue of the session of a name, while that lives.
     pub(crate) fn draft_forward(
         &self,
+        alloc: Global,
         draft: &mut Draft<P>,
         place: usize,
         after: &SessionState,
@@ -271,7 +272,7 @@ impl<P: Drop> Body<P> {
         ensures number { OnOk result (draft.new.events ≤ draft.old.events + 1) }
     {
         match self.live_place(&draft.births, place, after, &child) {
-            Some(found) => self.draft_queue(draft, found, child, event),
+            Some(found) => self.draft_queue(alloc, draft, found, child, event),
             None => Ok(Delivery::Dropped),
         }
     }

@@ -10,7 +10,7 @@ use crate::change::Change;
 use crate::prepared::{Prepared, ended};
 use crate::session::Session;
 use crate::weights::is_too_heavy;
-use sc_base::{NoMemory, Plain, SharedBytes, Word};
+use sc_base::{Boxed, NoMemory, Plain, SharedBytes, Word};
 use sc_types::{Data, EVENT_NAME_LIMIT, Event, Kind, PAIR_LIMIT, PairList, Phase, Refusal, Reply};
 use std::alloc::Global;
 
@@ -58,7 +58,7 @@ impl<P: Drop> Body<P> {
         if let Phase::Ended(how) = &found.state.phase {
             return Ok(Prepared::refused(alloc, ended(alloc, how)?));
         }
-        let event = posted_event(name, pairs)?;
+        let event = Boxed::new(alloc, posted_event(name, pairs)?)?;
         let reply = Reply::Posted(self.events + 1);
         Prepared::accepted(alloc, reply, Change::Queue { place, event })
     }

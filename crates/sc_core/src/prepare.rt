@@ -125,6 +125,7 @@ fn draft<E: Engine>(
 impl<E: Engine> HostState<E> {
     /// Prepares what a command does: its answer, and all memory that its changes need. The host machine stays as it is
     /// until `install`, also where memory is wanting.
+    #[inline(always)]
     pub fn prepare(&mut self, e: &E, command: &Command) -> Result<Prepared<E::Plan>, NoMemory>
         requires room { self.old.image.commands ≤ 2 ^ 48 }
         ensures image { self.new.image ≡ self.old.image }

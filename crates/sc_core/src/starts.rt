@@ -76,9 +76,10 @@ impl<P: Drop> Body<P> {
             (Prepares (install_read (image self.now) name.now text.now (Ok chart)) (image self.now)) }
         ensures plans { IfOk result (λ p. ArePlanned E.chart_of p.changes) }
     {
+        let chart = installed_chart(alloc, e, name, text, chart)?;
         let change = Change::Install {
             name: name.copy()?,
-            chart: installed_chart(alloc, e, name, text, chart)?,
+            chart: Boxed::new(alloc, chart)?,
         };
         Prepared::accepted(alloc, Reply::Installed, change)
     }

@@ -13,7 +13,7 @@ use crate::change::Change;
 use crate::failures::communication_error;
 use crate::prepared::Prepared;
 use crate::session::is_running;
-use sc_base::{BoxedSequence, NoMemory, Plain, Queue, Sequence, SharedBytes, Word};
+use sc_base::{Boxed, BoxedSequence, NoMemory, Plain, Queue, Sequence, SharedBytes, Word};
 use sc_types::{CLOCK_LIMIT, Delivery, InvokerImage, Phase, Refusal, Reply, TimerImage};
 use std::alloc::Global;
 
@@ -75,7 +75,7 @@ impl<P: Drop> Draft<P> {
     {
         self.changes.push(Change::Lose)?;
         if is_running(phase) {
-            let event = communication_error(alloc, sendid)?;
+            let event = Boxed::new(alloc, communication_error(alloc, sendid)?)?;
             self.changes.push(Change::Tell { place, event })?;
         }
         self.sent.push(Delivery::Unreachable)

@@ -41,12 +41,13 @@ fn is_send_type(text: Option<&[u8]>) -> bool
 fn name_in(alloc: Global, value: &Value) -> Result<Option<Name>, NoMemory>
     ensures { IfOk result (λ name. name ≡ event_name value.now) }
 {
-    match value {
-        Value::Text(text) if text.len() <= EVENT_NAME_LIMIT && is_word(text.slice()) => {
-            Ok(Some(event_name(alloc, text.slice())?))
-        }
-        _ => Ok(None),
+    let Value::Text(text) = value else {
+        return Ok(None);
+    };
+    if text.len() > EVENT_NAME_LIMIT || !is_word(text.slice()) {
+        return Ok(None);
     }
+    Ok(Some(event_name(alloc, text.slice())?))
 }
 
 /// The name of the event. SCXML 6.2.1.
@@ -126,9 +127,15 @@ fn origin(alloc: Global, session: &Word) -> Result<SharedBytes, NoMemory>
     ensures { IfOk result (λ origin. origin ≡ codes "#_scxml_" ++ session.now) }
 {
     let mut text = TextWriter::new(alloc);
-    text.text("#_scxml_")?;
-    text.bytes(session.bytes())?;
+    put_origin(&mut text, session)?;
     SharedBytes::from_slice(alloc, text.slice())
+}
+
+fn put_origin(text: &mut TextWriter, session: &Word) -> Result<(), NoMemory>
+    ensures { OnOk result (text.new ≡ text.old ++ codes "#_scxml_" ++ session.now) }
+{
+    text.text("#_scxml_")?;
+    text.bytes(session.bytes())
 }
 
 /// Puts the event into the internal queue at once.
@@ -235,9 +242,15 @@ fn made_id(alloc: Global, number: u64) -> Result<SharedBytes, NoMemory>
     ensures { IfOk result (λ id. id ≡ codes "send." ++ decimal number) }
 {
     let mut text = TextWriter::new(alloc);
-    text.text("send.")?;
-    text.number(number as u128)?;
+    put_id(&mut text, number)?;
     SharedBytes::from_slice(alloc, text.slice())
+}
+
+fn put_id(text: &mut TextWriter, number: u64) -> Result<(), NoMemory>
+    ensures { OnOk result (text.new ≡ text.old ++ codes "send." ++ decimal number) }
+{
+    text.text("send.")?;
+    text.number(u128::from(number))
 }
 
 /// Writes the id that is made; only an id that was written is counted.

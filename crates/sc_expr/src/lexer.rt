@@ -248,7 +248,9 @@ fn escape(byte: u8) -> Option<u8>
     ensures { result ≡ escape byte }
 {
     match byte {
-        b'\\' | b'\'' | b'"' => Some(byte),
+        b'\\' => Some(b'\\'),
+        b'\'' => Some(b'\''),
+        b'"' => Some(b'"'),
         b'n' => Some(b'\n'),
         b't' => Some(b'\t'),
         _ => None,

@@ -10,7 +10,7 @@ use std::sync::Arc;
 
 /// A turn with what it gave, and what it was computed of: the chart, the session before it and its cue. That it gave
 /// this is kept by the type, so whoever gets one need not know which engine made it.
-#[derive(Debug, Drop)]
+#[derive(Drop)]
 pub struct Turned {
     chart: Arc<Chart>,
     before: Boxed<SessionState>,

@@ -56,10 +56,7 @@ impl States {
     pub(crate) fn path_of(&self, state: u32) -> &[usize]
         ensures { result.now ≡ unwrap_or (slice_get self.now.paths state) [] }
     {
-        match self.paths.get(state as usize) {
-            Some(path) => path.slice(),
-            None => &[],
-        }
+        self.paths.get(state as usize).map_or(&[], Path::slice)
     }
 }
 

@@ -5,7 +5,7 @@ ghost use Rattle.sc_law.specs.Runs.{fresh_state};
 ghost use Rattle.sc_types.specs.declared.session.Phase.TheVariants as phase;
 ghost use Rattle.sc_turn_bench.specs.Sessions.{Waits, WaitsFor};
 
-use sc_base::{Name, NoMemory, Plain, Queue, Sequence, Shared, SharedBytes, Word};
+use sc_base::{Boxed, Name, NoMemory, Plain, Queue, Sequence, Shared, SharedBytes, Word};
 use sc_law::Engine;
 use sc_turn::{Compiled, Plan};
 use sc_types::{Cue, Data, Event, Kind, Phase, SessionState, ShortList};
@@ -61,28 +61,32 @@ fn waits(state: &SessionState) -> bool
     }
 }
 
-/// The session, where it waits for an external event.
-fn waiting(state: SessionState) -> Option<SessionState>
+/// The session, where it waits for an external event. It stays in the place that the turn gave it.
+fn waiting(state: Boxed<SessionState>) -> Option<Boxed<SessionState>>
     ensures { IfSome result (λ s. (s ≡ state) × (s.phase ≡ phase.Running) × (s.internal ≡ [])) }
 {
-    if waits(&state) { Some(state) } else { None }
+    if waits(state.get()) {
+        Some(state)
+    } else {
+        None
+    }
 }
 
 /// The session after a turn, where it waits for an external event then.
-fn next(alloc: Global, plan: &Plan, before: &SessionState, cue: &Cue) -> Option<SessionState>
+fn next(alloc: Global, plan: &Plan, before: &SessionState, cue: &Cue) -> Option<Boxed<SessionState>>
     requires legal { legal_fault plan.now ≡ None }
     requires fits { Fits plan.now before.now }
     requires cue { HasCue before.now cue.now }
     ensures { IfSome result (Waits plan.now) }
 {
     match Compiled.give(alloc, plan, before, cue) {
-        Ok(given) => waiting(given.into_parts().0.into_inner()),
+        Ok(given) => waiting(given.into_parts().0),
         Err(NoMemory) => None,
     }
 }
 
 /// The session after its first turn.
-fn started(alloc: Global, plan: &Plan) -> Option<SessionState>
+fn started(alloc: Global, plan: &Plan) -> Option<Boxed<SessionState>>
     requires { legal_fault plan.now ≡ None }
     ensures { IfSome result (Waits plan.now) }
 {
@@ -92,13 +96,13 @@ fn started(alloc: Global, plan: &Plan) -> Option<SessionState>
 }
 
 /// One turn; the session is another one then, or stays as it was.
-fn take(alloc: Global, plan: &Plan, state: &mut SessionState, cue: &Cue) -> Option<()>
+fn take(alloc: Global, plan: &Plan, state: &mut Boxed<SessionState>, cue: &Cue) -> Option<()>
     requires legal { legal_fault plan.now ≡ None }
     requires waits { Waits plan.now state.old }
     requires cue { WaitsFor cue.now }
     ensures { Waits plan.now state.new }
 {
-    let after = next(alloc, plan, state, cue)?;
+    let after = next(alloc, plan, state.get(), cue)?;
     *state = after;
     Some(())
 }
@@ -107,7 +111,7 @@ fn take(alloc: Global, plan: &Plan, state: &mut SessionState, cue: &Cue) -> Opti
 fn take_all(
     alloc: Global,
     plan: &Plan,
-    state: &mut SessionState,
+    state: &mut Boxed<SessionState>,
     cue: &Cue,
     count: u32,
 ) -> Option<()>
@@ -125,7 +129,7 @@ fn take_all(
 fn take_event(
     alloc: Global,
     plan: &Plan,
-    state: &mut SessionState,
+    state: &mut Boxed<SessionState>,
     event: &[u8],
     count: u32,
 ) -> Option<()>
@@ -139,7 +143,7 @@ fn take_event(
 }
 
 /// A session after its first turn and so many turns with an event.
-fn after(alloc: Global, plan: &Plan, event: &[u8], count: u32) -> Option<SessionState>
+fn after(alloc: Global, plan: &Plan, event: &[u8], count: u32) -> Option<Boxed<SessionState>>
     requires { legal_fault plan.now ≡ None }
 {
     let mut state = started(alloc, plan)?;
@@ -155,7 +159,7 @@ pub fn session_after(
     chart: LegalChart,
     event: &[u8],
     count: u32,
-) -> Option<SessionState> {
+) -> Option<Boxed<SessionState>> {
     let chart = Arc::new(alloc, chart.into_chart()).ok()?;
     let plan = Compiled.plan(alloc, &chart).ok()?;
     after(alloc, &plan, event, count)

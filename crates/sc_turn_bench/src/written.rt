@@ -46,7 +46,7 @@ fn put_chart(
     count: u32,
 ) -> Result<(), NoMemory> {
     match session_after(alloc, chart, event.as_bytes(), count) {
-        Some(state) => put_session(out, &state),
+        Some(state) => put_session(out, state.get()),
         None => out.text(" stopped"),
     }
 }

@@ -121,27 +121,28 @@ impl Attribute {
         ensures { result ≡ form_of tag self }
     {
         match self {
-            Attribute::Array
-            | Attribute::Cond
-            | Attribute::DelayExpr
-            | Attribute::EventExpr
-            | Attribute::Expr
-            | Attribute::SendIdExpr => Form::Code,
-            Attribute::IdLocation | Attribute::Index | Attribute::Item | Attribute::Location => {
-                Form::PlainName
-            }
+            Attribute::Array => Form::Code,
             Attribute::AutoForward => Form::Truth,
             Attribute::Binding => Form::Binding,
+            Attribute::Cond => Form::Code,
             Attribute::DataModel => Form::DataModel,
             Attribute::Delay => Form::Delay,
+            Attribute::DelayExpr => Form::Code,
             Attribute::Event => tag.event_form(),
+            Attribute::EventExpr => Form::Code,
+            Attribute::Expr => Form::Code,
             Attribute::Id => tag.id_form(),
+            Attribute::IdLocation => Form::PlainName,
+            Attribute::Index => Form::PlainName,
             Attribute::Initial => Form::Ids,
+            Attribute::Item => Form::PlainName,
             Attribute::Label => Form::Label,
             Attribute::Limit => Form::Limit,
+            Attribute::Location => Form::PlainName,
             Attribute::Name => tag.name_form(),
             Attribute::NameList => Form::PlainNames,
             Attribute::SendId => Form::Id,
+            Attribute::SendIdExpr => Form::Code,
             Attribute::Src => Form::ChartName,
             Attribute::Target => tag.target_form(),
             Attribute::Type => tag.type_form(),

@@ -134,7 +134,7 @@ fn tag_named(tags: &[Tag], text: &[u8]) -> Option<Tag>
 }
 
 /// The value of an attribute of an element.
-#[derive(Clone, Debug, Drop)]
+#[derive(Clone, Drop)]
 pub enum Member {
     /// The text as given.
     Plain(Bytes),
@@ -145,7 +145,7 @@ pub enum Member {
 }
 
 /// An element: its tag, its attributes in ascending order of their names, and its child elements.
-#[derive(Debug, Drop)]
+#[derive(Drop)]
 pub struct Node {
     pub tag: Tag,
     pub members: Sequence<(Bytes, Member)>,
@@ -153,7 +153,7 @@ pub struct Node {
 }
 
 /// A state chart, as the tree of its elements.
-#[derive(Clone, Debug, Drop)]
+#[derive(Clone, Drop)]
 pub struct Chart {
     pub root: Node,
 }

@@ -2,7 +2,7 @@ ghost use Rattle.std.specs.Prelude.{◌≡◌, IfOk};
 ghost use Rattle.std.proofs.Common.{rules};
 
 use crate::value::{PairList, Value};
-use sc_base::{Name, Plain, SharedBytes};
+use sc_base::{Name, NoMemory, Plain, SharedBytes};
 use std::alloc::AllocError;
 
 /// What `_event.data` reads.
@@ -66,7 +66,10 @@ impl Clone for Event {
 fn copied(payload: &Data) -> Result<Data, AllocError>
     ensures { IfOk result (λ copy. copy ≡ payload.now) }
 {
-    payload.clone()
+    match payload.copy() {
+        Ok(copy) => Ok(copy),
+        Err(NoMemory) => Err(AllocError),
+    }
 }
 
 impl Plain for Event {

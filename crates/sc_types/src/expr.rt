@@ -23,7 +23,7 @@ pub enum Op {
 }
 
 /// A field of the event that is being processed, as `_event.name` and `_event.data.x`.
-#[derive(Clone, Debug, Drop, PartialEq, Eq)]
+#[derive(Drop, PartialEq, Eq)]
 pub enum EventField {
     Name,
     Kind,
@@ -38,7 +38,7 @@ pub enum EventField {
 }
 
 /// An expression of the data model: at most 256 levels deep, of which a leaf is one.
-#[derive(Debug, Drop)]
+#[derive(Drop)]
 pub enum Expr {
     Bool(bool),
     /// Not negative.
@@ -63,8 +63,26 @@ impl Plain for Op {
     ghost clone_equals = { Prim.search rules };
 }
 
+// By hand, since the proof of the derived one takes far longer.
+impl Clone for EventField {
+    ghost is_clone = { λ f copy. copy ≡ f };
+
+    fn clone(&self) -> Result<Self, AllocError> {
+        Ok(match self {
+            EventField::Name => EventField::Name,
+            EventField::Kind => EventField::Kind,
+            EventField::SendId => EventField::SendId,
+            EventField::Origin => EventField::Origin,
+            EventField::OriginType => EventField::OriginType,
+            EventField::InvokeId => EventField::InvokeId,
+            EventField::Payload => EventField::Payload,
+            EventField::PayloadOf(name) => EventField::PayloadOf(name.clone()?),
+        })
+    }
+}
+
 impl Plain for EventField {
-    ghost clone_equals = { Prim.search rules };
+    ghost clone_equals = { λ f copy same. same };
 }
 
 impl Clone for Expr {

@@ -1,8 +1,10 @@
+ghost use Rattle.std.specs.Prelude.{◌≡◌};
 ghost use Rattle.std.proofs.Common.{rules};
 
 use crate::command::{Command, Reply};
 use crate::value::Value;
 use sc_base::{BoxedSequence, Bytes, Plain, Sequence, Word};
+use std::alloc::AllocError;
 
 /// Who made a command: a client of the script, the set-up being client 0, or a worker.
 #[derive(Clone, Copy, Debug, PartialEq, Eq)]
@@ -35,7 +37,7 @@ pub enum Delivery {
 }
 
 /// What a `<log>` wrote.
-#[derive(Clone, Debug, Drop, PartialEq, Eq)]
+#[derive(Debug, Drop, PartialEq, Eq)]
 pub struct LogLine {
     pub label: Bytes,
     pub value: Value,
@@ -61,8 +63,21 @@ impl Plain for Delivery {
     ghost clone_equals = { Prim.search rules };
 }
 
+// By hand, since the proof of the derived one takes far longer.
+impl Clone for LogLine {
+    ghost is_clone = { λ line copy. copy ≡ line };
+
+    fn clone(&self) -> Result<Self, AllocError> {
+        let value = self.value.clone()?;
+        Ok(LogLine {
+            label: self.label.clone()?,
+            value,
+        })
+    }
+}
+
 impl Plain for LogLine {
-    ghost clone_equals = { Prim.search rules };
+    ghost clone_equals = { λ line copy same. same };
 }
 
 impl Plain for Entry {

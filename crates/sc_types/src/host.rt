@@ -1,20 +1,18 @@
-ghost use Rattle.std.specs.Prelude.{◌≡◌, IfOk};
 ghost use Rattle.std.proofs.Common.{rules};
 
 use crate::event::Event;
 use crate::session::SessionState;
-use sc_base::{Bytes, NoMemory, Plain, Queue, Sequence, SharedBytes, Word};
-use std::alloc::AllocError;
+use sc_base::{Bytes, Plain, Queue, Sequence, SharedBytes, Word};
 
 /// An installed chart: its name, and its text as it was given.
-#[derive(Clone, Debug, Drop, PartialEq, Eq)]
+#[derive(Drop)]
 pub struct ChartImage {
     pub name: Word,
     pub text: Bytes,
 }
 
 /// The session that invoked another, under which id, and whether the two are cut off from one another.
-#[derive(Clone, Debug, Drop, PartialEq, Eq)]
+#[derive(Debug, Drop)]
 pub struct InvokerImage {
     pub session: Word,
     pub invokeid: SharedBytes,
@@ -22,7 +20,7 @@ pub struct InvokerImage {
 }
 
 /// A session as the host holds it.
-#[derive(Clone, Debug, Drop, PartialEq, Eq)]
+#[derive(Drop)]
 pub struct SessionImage {
     pub state: SessionState,
     /// The external queue, its front first.
@@ -46,7 +44,7 @@ pub enum To {
 
 /// A delayed send that is pending: the session that sent it, its number, and when it is due, in milliseconds
 /// of the host's clock.
-#[derive(Clone, Debug, Drop, PartialEq, Eq)]
+#[derive(Debug, Drop, PartialEq, Eq)]
 pub struct TimerImage {
     pub session: Word,
     /// Each send has a number of its own; a later one has a larger one.
@@ -59,7 +57,7 @@ pub struct TimerImage {
 /// The host's plain data: the clock in milliseconds, how many commands were accepted, events numbered and
 /// sends delayed, the charts in order of installation, the sessions in order of start, and the pending sends
 /// in order of their due times.
-#[derive(Debug, Drop, PartialEq, Eq)]
+#[derive(Drop)]
 pub struct HostImage {
     pub clock: u64,
     pub commands: u64,
@@ -70,51 +68,6 @@ pub struct HostImage {
     pub timers: Sequence<TimerImage>,
 }
 
-impl Plain for ChartImage {
-    ghost clone_equals = { Prim.search rules };
-}
-
-impl Plain for InvokerImage {
-    ghost clone_equals = { Prim.search rules };
-}
-
-impl Plain for SessionImage {
-    ghost clone_equals = { Prim.search rules };
-}
-
 impl Plain for To {
     ghost clone_equals = { Prim.search rules };
-}
-
-impl Plain for TimerImage {
-    ghost clone_equals = { Prim.search rules };
-}
-
-impl Clone for HostImage {
-    ghost is_clone = { λ image copy. copy ≡ image };
-
-    fn clone(&self) -> Result<Self, AllocError> {
-        match copy_image(self) {
-            Ok(image) => Ok(image),
-            Err(NoMemory) => Err(AllocError),
-        }
-    }
-}
-
-impl Plain for HostImage {
-    ghost clone_equals = { λ image copy same. same };
-}
-
-fn copy_image(image: &HostImage) -> Result<HostImage, NoMemory>
-    ensures { IfOk result (λ c. c ≡ image.now) }
-{
-    Ok(HostImage {
-        clock: image.clock,
-        commands: image.commands,
-        events: image.events,
-        delayed: image.delayed,
-        charts: image.charts.copy()?,
-        sessions: image.sessions.copy()?,
-        timers: image.timers.copy()?,
-    })
 }

@@ -5,7 +5,7 @@ use sc_types::Chart;
 use std::marker::Model;
 
 /// A chart that is legal: `validate` found no fault in it.
-#[derive(Debug, Drop)]
+#[derive(Drop)]
 pub struct LegalChart {
     chart: Chart,
 }

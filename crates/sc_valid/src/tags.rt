@@ -54,11 +54,16 @@ pub(crate) fn may_hold(above: Tag, tag: Tag) -> bool
                 | Tag::Invoke
         ),
         Tag::Final => matches!(tag, Tag::OnEntry | Tag::OnExit | Tag::DoneData),
-        Tag::History | Tag::Initial => matches!(tag, Tag::Transition),
-        Tag::Transition | Tag::OnEntry | Tag::OnExit | Tag::ForEach => is_content(tag),
+        Tag::History => matches!(tag, Tag::Transition),
+        Tag::Initial => matches!(tag, Tag::Transition),
+        Tag::Transition => is_content(tag),
+        Tag::OnEntry => is_content(tag),
+        Tag::OnExit => is_content(tag),
+        Tag::ForEach => is_content(tag),
         Tag::Finalize => is_content(tag) && !matches!(tag, Tag::Raise | Tag::Send),
         Tag::DataModel => matches!(tag, Tag::DataItem),
-        Tag::DoneData | Tag::Send => matches!(tag, Tag::Content | Tag::Param),
+        Tag::DoneData => matches!(tag, Tag::Content | Tag::Param),
+        Tag::Send => matches!(tag, Tag::Content | Tag::Param),
         Tag::Invoke => matches!(tag, Tag::Param | Tag::Finalize),
         Tag::If => is_content(tag) || matches!(tag, Tag::ElseIf | Tag::Else),
         _ => false,
@@ -70,10 +75,12 @@ pub(crate) fn is_single(above: Tag, tag: Tag) -> bool
     ensures { result ≡ is_single above tag }
 {
     match above {
-        Tag::Scxml | Tag::Parallel => matches!(tag, Tag::DataModel),
+        Tag::Scxml => matches!(tag, Tag::DataModel),
+        Tag::Parallel => matches!(tag, Tag::DataModel),
         Tag::State => matches!(tag, Tag::DataModel | Tag::Initial),
         Tag::Final => matches!(tag, Tag::DoneData),
-        Tag::DoneData | Tag::Send => matches!(tag, Tag::Content),
+        Tag::DoneData => matches!(tag, Tag::Content),
+        Tag::Send => matches!(tag, Tag::Content),
         Tag::Invoke => matches!(tag, Tag::Finalize),
         _ => false,
     }

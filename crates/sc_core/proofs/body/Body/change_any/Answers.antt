@@ -25,12 +25,12 @@ put_state-requires-clause-name g c =
 pub start-requires-clause-invoker : goal.start-requires-clause-invoker
 start-requires-clause-invoker g c =
     let can = subst (CanApply (image c.args.self.now)) c.in-Start.is c.requires.can in
-    rw c.into_inner.ensures can.2
+    rw c.into_inner-in-Start.ensures can.2
 
 pub start-requires-clause-children : goal.start-requires-clause-children
 start-requires-clause-children g c =
     let can = subst (CanApply (image c.args.self.now)) c.in-Start.is c.requires.can in
-    rw c.into_inner.ensures can.3
+    rw c.into_inner-in-Start.ensures can.3
 
 pub bear-requires-clause-new : goal.bear-requires-clause-new
 bear-requires-clause-new g c =

@@ -27,6 +27,6 @@ returns-clause-told g c = λ h t sender.
     let found = sender_there before c.args.place after h old t sender in
     let runs : is_running t.state.phase ≡ true = ap is_running found.is.phase ∙ sym c.if-not-is_running.ensures in
     unborn_drafted who h old _ t c.args.invokeid c.args.child c.in_ok-event.event sender.draft sender.there
-    (sender_within before c.args.place after h old t sender) runs c.in_ok-event.ensures
+    (sender_within before c.args.place after h old t sender) runs (c.in_ok-event.ensures ∙ c.in_ok-unborn_event.ensures)
     (ap (λ cs. record old { changes = cs }) (c.in_ok-push-2.ensures.ok
     ∙ ap (λ cs. cs ++ Tell c.args.place c.in_ok-event.event ∷ []) c.in_ok-push.ensures.ok))
