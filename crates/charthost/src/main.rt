@@ -11,10 +11,13 @@ mod progress;
 use counted::Counted;
 use file_disk::FileDisk;
 use progress::Progress;
-use sc_dev::OpenGate;
+use sc_dev::{OpenGate, Sink, Source};
 use sc_top::Status;
 use sc_types::NoMemory;
+use std::alloc::Global;
 use std::process::ExitCode;
+use std::sync::Wait;
+use std::thread::Threads;
 use std::{env, io};
 
 fn main(rt: HostRuntime) -> ExitCode {
@@ -25,16 +28,27 @@ fn main(rt: HostRuntime) -> ExitCode {
     let mut input = Counted::new(rt.stdin());
     let mut output = Counted::new(rt.stdout());
     let mut disk = FileDisk::new(&rt, Progress::new(is_helped));
-    let status = sc_top::top(
+    let status = run(
         &rt,
         rt.alloc(),
         words.as_slice(),
         &mut input,
         &mut output,
         &mut disk,
-        &OpenGate,
     );
     help::ended(&rt, is_helped, status)
+}
+
+// Runs a command line over these devices. Its workers pass a gate that is always open.
+fn run<R: Threads + Wait + Sync, S: Source, K: Sink>(
+    rt: &R,
+    alloc: Global,
+    words: &[String],
+    input: &mut S,
+    output: &mut K,
+    disk: &mut FileDisk<'_>,
+) -> u8 {
+    sc_top::top(rt, alloc, words, input, output, disk, &OpenGate)
 }
 
 // The words after the program's name. A command line with a word that is not UTF-8 is no command, and is

@@ -1,10 +1,11 @@
-ghost use Rattle.std.specs.Prelude.{◌≡◌, ◌++◌, ◌-◌, ◌<◌, ◌^◌, None, codes, decimal, true, ℕ, IfOk, OnOk};
+ghost use Rattle.std.specs.Prelude.{◌≡◌, ◌++◌, ◌-◌, ◌<◌, ◌^◌, List, None, codes, decimal, true, ℕ, IfOk, OnOk};
 ghost use Rattle.std.specs.Bool.{OnTrue, OnFalse};
 ghost use Rattle.std.specs.Option.{option_copied, option_map_or};
-ghost use Rattle.sc_types.specs.Attributes.{members_of};
+ghost use Rattle.sc_types.specs.Attributes.{Members, members_of};
+ghost use Rattle.sc_types.specs.declared.event.Data.{Data};
 ghost use Rattle.sc_types.specs.declared.value.Value.TheVariants.{Text};
 ghost use Rattle.sc_types.specs.declared.attribute.Attribute.TheVariants as attribute;
-ghost use Rattle.sc_law.specs.Sending.{Inside, Outside, children_of, event_name, is_send_type, post, post_made, processor, send, send_name, send_typed, send_with};
+ghost use Rattle.sc_law.specs.Sending.{Inside, Outside, Receiver as ReceiverOf, children_of, event_name, is_send_type, post, post_made, processor, send, send_name, send_typed, send_with};
 ghost use Rattle.sc_law.specs.Content.{text_or_none};
 ghost use Rattle.sc_law.specs.Data.{set};
 ghost use Rattle.sc_law.specs.Runs.{with_effect};
@@ -12,7 +13,7 @@ ghost use Rattle.sc_law.specs.Outcomes.{done};
 ghost use Rattle.sc_eval.specs.Envs.{env_of, HasIds};
 ghost use Rattle.sc_exec.specs.Runs.{running_of, KeepsRows, Does};
 ghost use Rattle.sc_exec.specs.Receivers.{receiver_as};
-ghost use Rattle.sc_exec.specs.Sends.{IsWritten, TellsId, sent_as, sent_event};
+ghost use Rattle.sc_exec.specs.Sends.{IsWritten, TellsId, posted_with, sent_as, sent_event, sent_to};
 
 use crate::delay::send_delay;
 use crate::event_data::payload;
@@ -94,7 +95,7 @@ fn send_fault(alloc: Global, node: &Node) -> Failure<SharedBytes>
     }
 }
 
-/// The event's name, the target, the delay, `namelist`, params and content, in this order; nothing where one fails.
+/// The event's name, the target, and what else is sent, in this order; nothing where one fails.
 fn checked(alloc: Global, run: &mut Running, node: &Node) -> Result<Option<Posted>, NoMemory>
     requires { HasIds run.old.env }
     ensures ok { IfOk result (λ found. send_typed (members_of node.now) (children_of node.now) (running_of run.old)
@@ -104,22 +105,38 @@ fn checked(alloc: Global, run: &mut Running, node: &Node) -> Result<Option<Poste
     let Some(name) = send_name(alloc, &run.env, node)? else {
         return Ok(None);
     };
-    let Some(receiver) = target_of(alloc, node.text(Attribute::Target), run)? else {
-        return Ok(None);
-    };
+    match target_of(alloc, node.text(Attribute::Target), run)? {
+        Some(receiver) => checked_to(alloc, run, node, name, receiver),
+        None => Ok(None),
+    }
+}
+
+/// The delay, `namelist`, params and content, in this order, of an event of this name to this receiver.
+fn checked_to(
+    alloc: Global,
+    run: &mut Running,
+    node: &Node,
+    name: Name,
+    receiver: Receiver,
+) -> Result<Option<Posted>, NoMemory>
+    requires { HasIds run.old.env }
+    ensures ok { IfOk result (λ found. sent_to (members_of node.now) (children_of node.now) name
+        (receiver_as receiver) (running_of run.old) ≡ sent_as (members_of node.now) (running_of run.new) found) }
+    ensures kept { KeepsRows run.old run.new }
+{
     let Some(delay) = send_delay(alloc, &run.env, node)? else {
         return Ok(None);
     };
     let names = node.words(Attribute::NameList);
-    let Some(payload) = payload(alloc, run, names, node.kids.slice())? else {
-        return Ok(None);
-    };
-    Ok(Some(Posted {
-        name,
-        receiver,
-        delay,
-        payload,
-    }))
+    match payload(alloc, run, names, node.kids.slice())? {
+        Some(payload) => Ok(Some(Posted {
+            name,
+            receiver,
+            delay,
+            payload,
+        })),
+        None => Ok(None),
+    }
 }
 
 /// `#_scxml_` and the session's name.
@@ -269,7 +286,25 @@ fn write_id(run: &mut Running, place: &[u8], id: Bytes) -> bool
     }
 }
 
-/// With an id that is made, which `idlocation` gets.
+/// An id that is made, which `idlocation` gets; none at the last count, and where it cannot be written.
+fn new_id(alloc: Global, run: &mut Running, place: &[u8]) -> Result<Option<SharedBytes>, NoMemory>
+    ensures made { IfOk result (λ id. (m : Members) (name : List ℕ) (who : ReceiverOf) (delay : ℕ) (payload : Data)
+        → post_made m place.now name who delay payload (running_of run.old)
+        ≡ posted_with m name who delay payload (running_of run.new) id) }
+    ensures kept { KeepsRows run.old run.new }
+{
+    if run.sends == u64::MAX {
+        return Ok(None);
+    }
+    let id = made_id(alloc, run.sends + 1)?;
+    if write_id(run, place, Bytes::from_slice(alloc, id.slice())?) {
+        Ok(Some(id))
+    } else {
+        Ok(None)
+    }
+}
+
+/// With an id that is made.
 fn post_made(
     alloc: Global,
     run: &mut Running,
@@ -281,15 +316,10 @@ fn post_made(
         (receiver_as posted.receiver) posted.delay posted.payload (running_of run.old)) }
     ensures kept { KeepsRows run.old run.new }
 {
-    if run.sends == u64::MAX {
-        return Err(send_fault(alloc, node));
+    match new_id(alloc, run, place)? {
+        Some(id) => Ok(post(alloc, run, id, posted)?),
+        None => Err(send_fault(alloc, node)),
     }
-    let id = made_id(alloc, run.sends + 1)?;
-    if !write_id(run, place, Bytes::from_slice(alloc, id.slice())?) {
-        return Err(send_fault(alloc, node));
-    }
-    post(alloc, run, id, posted)?;
-    Ok(())
 }
 
 fn send_with(

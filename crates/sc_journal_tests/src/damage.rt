@@ -47,7 +47,7 @@ fn a_journal_with_one_body_has_these_bytes(rt: HostRuntime) -> Result<(), Fail> 
         Outcome::Done,
         Outcome::Yes,
     ];
-    assert_eq!(rt; outcomes.as_slice(), want.as_slice());
+    assert_eq!(rt; outcomes.slice(), want.as_slice());
     Ok(())
 }
 
@@ -113,7 +113,7 @@ fn no_entry_passes_the_last_number(rt: HostRuntime) -> Result<(), Fail> {
         Outcome::Done,
         Outcome::Full,
     ];
-    assert_eq!(rt; outcomes.as_slice(), want.as_slice());
+    assert_eq!(rt; outcomes.slice(), want.as_slice());
     Ok(())
 }
 
@@ -151,7 +151,7 @@ fn a_journal_is_made_where_none_is(rt: HostRuntime) -> Result<(), Fail> {
         Outcome::Exists,
         Outcome::Opened(1, 0, 0),
     ];
-    assert_eq!(rt; outcomes.as_slice(), want.as_slice());
+    assert_eq!(rt; outcomes.slice(), want.as_slice());
     Ok(())
 }
 

@@ -42,7 +42,7 @@ fn calls_fail_where_a_room_is_full(rt: HostRuntime) -> Result<(), Fail> {
         Outcome::Yes,
         Outcome::Yes,
     ];
-    assert_eq!(rt; outcomes.as_slice(), want.as_slice());
+    assert_eq!(rt; outcomes.slice(), want.as_slice());
     Ok(())
 }
 
@@ -73,6 +73,6 @@ fn a_stop_fills_what_is_pending(rt: HostRuntime) -> Result<(), Fail> {
         Outcome::Yes,
         Outcome::Number(0),
     ];
-    assert_eq!(rt; &outcomes[3.min(outcomes.len())..], want.as_slice());
+    assert_eq!(rt; &outcomes.slice()[3.min(outcomes.len())..], want.as_slice());
     Ok(())
 }

@@ -28,7 +28,7 @@ fn an_entry_in_doubt_is_settled(rt: HostRuntime) -> Result<(), Fail> {
         Outcome::Done,
         Outcome::Opened(1, 1, 3),
     ];
-    assert_eq!(rt; outcomes.as_slice(), want.as_slice());
+    assert_eq!(rt; outcomes.slice(), want.as_slice());
     Ok(())
 }
 
@@ -62,7 +62,7 @@ fn two_doubts_in_a_row(rt: HostRuntime) -> Result<(), Fail> {
         Outcome::Done,
         Outcome::Opened(1, 1, 5),
     ];
-    assert_eq!(rt; outcomes.as_slice(), want.as_slice());
+    assert_eq!(rt; outcomes.slice(), want.as_slice());
     Ok(())
 }
 
@@ -77,7 +77,7 @@ fn where_nothing_is_in_doubt_settling_calls_no_device(rt: HostRuntime) -> Result
         Outcome::Done,
         Outcome::Number(7),
     ];
-    assert_eq!(rt; outcomes.as_slice(), want.as_slice());
+    assert_eq!(rt; outcomes.slice(), want.as_slice());
     Ok(())
 }
 

@@ -38,7 +38,7 @@ fn opening_fails_at_each_call(rt: HostRuntime) -> Result<(), Fail> {
         Outcome::Failed,
         Outcome::Opened(1, 0, 0),
     ];
-    assert_eq!(rt; outcomes.as_slice(), want.as_slice());
+    assert_eq!(rt; outcomes.slice(), want.as_slice());
     Ok(())
 }
 
@@ -64,7 +64,7 @@ fn adding_fails_at_each_call(rt: HostRuntime) -> Result<(), Fail> {
             Outcome::Failed,
             second,
         ];
-        assert_eq!(rt; outcomes.as_slice(), want.as_slice(), "call {failing}");
+        assert_eq!(rt; outcomes.slice(), want.as_slice(), "call {failing}");
     }
     Ok(())
 }
@@ -91,7 +91,7 @@ fn settling_fails_at_each_call(rt: HostRuntime) -> Result<(), Fail> {
             Outcome::Done,
         ];
         assert_eq!(rt;
-            &outcomes[2.min(outcomes.len())..],
+            &outcomes.slice()[2.min(outcomes.len())..],
             want.as_slice(),
             "call {failing}"
         );
@@ -119,6 +119,6 @@ fn a_full_disk_fails(rt: HostRuntime) -> Result<(), Fail> {
         Outcome::Done,
         Outcome::Opened(1, 1, 4),
     ];
-    assert_eq!(rt; &outcomes[3.min(outcomes.len())..], want.as_slice());
+    assert_eq!(rt; &outcomes.slice()[3.min(outcomes.len())..], want.as_slice());
     Ok(())
 }

@@ -1,8 +1,9 @@
 //! Steps on a disk in memory and a journal on it, and what comes of them.
 
+use sc_base::{NoMemory, Sequence};
 use sc_dev::{Disk, MemDisk, Part};
 use sc_journal::{AppendFault, Bodies, CreateFault, Journal, JournalFault, Opened, create};
-use std::alloc::{AllocError, Global};
+use std::alloc::Global;
 
 /// What is asked for.
 #[derive(Clone, Copy)]
@@ -63,16 +64,13 @@ pub fn small_disk(alloc: Global, room: u64, calls: u64, failing: &[u64]) -> Stat
 
 impl State {
     /// What comes of these steps, one after another.
-    pub fn after(self, alloc: Global, steps: &[Step<'_>]) -> Result<Vec<Outcome>, AllocError> {
+    pub fn after(self, alloc: Global, steps: &[Step<'_>]) -> Result<Sequence<Outcome>, NoMemory> {
         let mut state = self;
-        let mut outcomes = Vec::with_capacity(alloc, steps.len())?;
+        let mut outcomes = Sequence::new(alloc);
         for step in steps {
             let (next, outcome) = state.step(alloc, step);
             state = next;
-            match outcomes.push(outcome) {
-                Ok(()) => {}
-                Err(_) => return Err(AllocError),
-            }
+            outcomes.push(outcome)?;
         }
         Ok(outcomes)
     }

@@ -1,11 +1,14 @@
-use crate::program::{call, call_over};
-use sc_dev::{MemSink, MemSource};
+use crate::program::{AMPLE, Case, Streams, call, check, check_over};
+use sc_base::TextWriter;
 use sc_types::NoMemory;
 use std::alloc::Global;
 use std::test::Fail;
 
 /// The command line of a check.
 const CHECK: &str = "check";
+
+/// A chart of one state.
+const ONE_STATE: &str = r#"{"tag":"scxml","kids":[{"tag":"state"}]}"#;
 
 #[test]
 fn a_chart_has_its_count_of_states(rt: HostRuntime) -> Result<(), Fail> {
@@ -20,9 +23,13 @@ fn a_chart_has_its_count_of_states(rt: HostRuntime) -> Result<(), Fail> {
             "ok 5\n",
         ),
     ] {
-        let outcome = call(&rt, rt.alloc(), CHECK, chart.as_bytes())?;
-        assert_eq!(rt; outcome.status, 0, "{chart}");
-        assert_eq!(rt; outcome.written(), line.as_bytes(), "{chart}");
+        let case = Case {
+            line: CHECK,
+            script: chart,
+            status: 0,
+            written: line,
+        };
+        check(&rt, rt.alloc(), &case)?;
     }
     Ok(())
 }
@@ -57,59 +64,67 @@ fn a_fault_of_a_chart_is_told_with_its_place(rt: HostRuntime) -> Result<(), Fail
             "chart 27 -\n",
         ),
     ] {
-        let outcome = call(&rt, rt.alloc(), CHECK, text.as_bytes())?;
-        assert_eq!(rt; outcome.status, 3, "{text}");
-        assert_eq!(rt; outcome.written(), line.as_bytes(), "{text}");
+        let case = Case {
+            line: CHECK,
+            script: text,
+            status: 3,
+            written: line,
+        };
+        check(&rt, rt.alloc(), &case)?;
     }
     Ok(())
 }
 
 /// A chart of one state, with so many spaces after it.
-fn chart_with(alloc: Global, spaces: usize) -> Result<Vec<u8>, NoMemory> {
-    let mut text = Vec::from_slice(alloc, br#"{"tag":"scxml","kids":[{"tag":"state"}]}"#)?;
+fn chart_with(alloc: Global, spaces: u32) -> Result<TextWriter, NoMemory> {
+    let mut text = TextWriter::new(alloc);
+    text.text(ONE_STATE)?;
     for _ in 0..spaces {
-        text.push(b' ')?;
+        text.text(" ")?;
     }
     Ok(text)
 }
 
+/// The chart has 40 bytes, and a text of more than 1,048,576 is none.
 #[test]
 fn a_chart_has_at_most_1048576_bytes(rt: HostRuntime) -> Result<(), Fail> {
-    for (spaces, size, status, line) in [
-        (1_048_536, 1_048_576, 0, "ok 1\n"),
-        (1_048_537, 1_048_577, 3, "chart 9 -\n"),
-        (1_100_000, 1_100_040, 3, "chart 9 -\n"),
+    for (spaces, status, line) in [
+        (1_048_536, 0, "ok 1\n"),
+        (1_048_537, 3, "chart 9 -\n"),
+        (1_100_000, 3, "chart 9 -\n"),
     ] {
         let text = chart_with(rt.alloc(), spaces)?;
-        assert_eq!(rt; text.len(), size);
-        let outcome = call(&rt, rt.alloc(), CHECK, text.as_slice())?;
-        assert_eq!(rt; outcome.status, status, "{size} bytes");
-        assert_eq!(rt; outcome.written(), line.as_bytes(), "{size} bytes");
+        let outcome = call(&rt, rt.alloc(), CHECK, text.slice())?;
+        let found = (outcome.status, outcome.written());
+        assert_eq!(rt; found, (status, line.as_bytes()), "{spaces} spaces");
     }
     Ok(())
 }
 
 #[test]
 fn a_failed_read_of_a_chart_is_told(rt: HostRuntime) -> Result<(), Fail> {
-    let mut source = MemSource::new(rt.alloc(), br#"{"tag":"scxml"}"#, 10, &[2])?;
-    let mut sink = MemSink::new(rt.alloc(), 1000, 1000, &[])?;
-    let status = call_over(&rt, rt.alloc(), CHECK, &mut source, &mut sink)?;
-    assert_eq!(rt; status, 4);
-    assert_eq!(rt; sink.bytes(), b"read\n".as_slice());
-    Ok(())
+    let streams = Streams {
+        most_read: 10,
+        failing_reads: &[2],
+        ..AMPLE
+    };
+    let case = Case {
+        line: CHECK,
+        script: ONE_STATE,
+        status: 4,
+        written: "read\n",
+    };
+    check_over(&rt, rt.alloc(), &streams, &case)
 }
 
 #[test]
 fn a_failed_write_of_a_check_leaves_its_first_part(rt: HostRuntime) -> Result<(), Fail> {
-    let mut source = MemSource::new(
-        rt.alloc(),
-        br#"{"tag":"scxml","kids":[{"tag":"state"}]}"#,
-        1000,
-        &[],
-    )?;
-    let mut sink = MemSink::new(rt.alloc(), 2, 1000, &[])?;
-    let status = call_over(&rt, rt.alloc(), CHECK, &mut source, &mut sink)?;
-    assert_eq!(rt; status, 5);
-    assert_eq!(rt; sink.bytes(), b"ok".as_slice());
-    Ok(())
+    let streams = Streams { room: 2, ..AMPLE };
+    let case = Case {
+        line: CHECK,
+        script: ONE_STATE,
+        status: 5,
+        written: "ok",
+    };
+    check_over(&rt, rt.alloc(), &streams, &case)
 }

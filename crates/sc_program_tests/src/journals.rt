@@ -1,9 +1,9 @@
 ghost use Rattle.std.specs.Prelude.{◌≤◌, length};
 
 // What the words do on journals: a new one, none, one that was cut, and one that was worked on before.
-use crate::program::{RUN, call_on, created, empty};
+use crate::program::{Case, RUN, call_on, check_on, created, empty, last_call};
 use crate::rows::ONE_LOG;
-use sc_base::TextWriter;
+use sc_base::{Bytes, TextWriter};
 use sc_dev::{Disk, MemDisk, Part};
 use sc_types::NoMemory;
 use std::alloc::Global;
@@ -17,61 +17,73 @@ const ONE_TICK: [u8; 35] = [
     0, 9, 4, 0, 0, 0, 0, 0, 0, 0, 5, 0,
 ];
 
-/// A chart that counts the events `inc`, and a session of it.
+/// What a new journal holds: its head, and the closed gate behind it.
+const EMPTY: [u8; 21] = [
+    0x01, 0x53, 0x43, 0x58, 0x48, 0x4f, 0x53, 0x54, 0, 0, 0, 1, 0, 0, 0, 0, 0, 0, 0, 1, 0,
+];
+
 /// A chart that counts the event `inc`, and a session of it.
 pub const COUNTER: &str = concat!(
     r#"chart n {"tag":"scxml","kids":[{"tag":"datamodel","kids":[{"tag":"data","id":"n","expr":"0"}]},{"tag":"state","id":"a","kids":[{"tag":"transition","event":"inc","kids":[{"tag":"assign","location":"n","expr":"n + 1"}]}]}]}"#,
     "\nstart s n\n",
 );
 
+/// What a new journal holds after a run of a script.
+fn journal_after<R: Threads + Wait + Sync>(
+    rt: &R,
+    alloc: Global,
+    script: &[u8],
+) -> Result<Bytes, NoMemory> {
+    let mut disk = created(rt, alloc, &[])?;
+    call_on(rt, alloc, RUN, script, &mut disk)?;
+    Bytes::from_slice(alloc, disk.bytes(Part::Journal))
+}
+
 #[test]
 fn a_command_is_journaled_as_these_bytes(rt: HostRuntime) -> Result<(), Fail> {
-    let mut disk = created(&rt, rt.alloc(), &[])?;
-    let outcome = call_on(&rt, rt.alloc(), RUN, b"tick 5\n", &mut disk)?;
-    assert_eq!(rt; outcome.status, 0);
-    assert_eq!(rt; disk.bytes(Part::Journal), ONE_TICK.as_slice());
+    let journal = journal_after(&rt, rt.alloc(), b"tick 5\n")?;
+    assert_eq!(rt; journal.slice(), ONE_TICK.as_slice());
     Ok(())
 }
 
 #[test]
 fn an_empty_script_journals_nothing(rt: HostRuntime) -> Result<(), Fail> {
-    let mut disk = created(&rt, rt.alloc(), &[])?;
-    let before = disk.bytes(Part::Journal).to_vec(rt.alloc())?;
-    let outcome = call_on(&rt, rt.alloc(), RUN, b"", &mut disk)?;
-    assert_eq!(rt; outcome.status, 0);
-    assert_eq!(rt;
-        outcome.written(),
-        b"open 0\nsessions 0\nclock 0 timers 0\nend quiet\n".as_slice()
-    );
-    assert_eq!(rt; disk.bytes(Part::Journal), before.as_slice());
+    let journal = journal_after(&rt, rt.alloc(), b"")?;
+    assert_eq!(rt; journal.slice(), EMPTY.as_slice());
     Ok(())
 }
 
 /// A disk whose journal has these bytes.
-fn with_journal<R: Threads + Wait + Sync>(
-    rt: &R,
-    alloc: Global,
-    bytes: &[u8],
-) -> Result<MemDisk, Fail>
+fn with_journal(alloc: Global, bytes: &[u8]) -> Result<MemDisk, Fail>
     requires some { 1 ≤ length bytes.now }
     requires few { length bytes.now ≤ 100 }
 {
-    let mut disk = empty(rt, alloc, &[])?;
+    let mut disk = empty(alloc, &[])?;
     disk.write_at(Part::Journal, 0, bytes)?;
     disk.sync(Part::Journal)?;
     Ok(disk)
 }
 
+/// A run of it leaves it as it was.
 #[test]
 fn a_journal_that_was_cut_is_damaged(rt: HostRuntime) -> Result<(), Fail> {
-    let mut disk = with_journal(&rt, rt.alloc(), &ONE_TICK[..30])?;
-    for line in [RUN, "show"] {
-        let outcome = call_on(&rt, rt.alloc(), line, b"", &mut disk)?;
-        assert_eq!(rt; outcome.status, 9, "{line}");
-        assert_eq!(rt; outcome.written(), b"damaged 20\n".as_slice(), "{line}");
+    let disk = with_journal(rt.alloc(), &ONE_TICK[..30])?;
+    let cases = [bad(RUN, "damaged 20\n"), bad("show", "damaged 20\n")];
+    check_on(&rt, rt.alloc(), disk, &cases)
+}
+
+fn without_script<'a>(line: &'a str, status: u8, written: &'a str) -> Case<'a> {
+    Case {
+        line,
+        script: "",
+        status,
+        written,
     }
-    assert_eq!(rt; disk.bytes(Part::Journal), &ONE_TICK[..30]);
-    Ok(())
+}
+
+/// A call that finds no journal, or a damaged one.
+fn bad<'a>(line: &'a str, written: &'a str) -> Case<'a> {
+    without_script(line, 9, written)
 }
 
 /// The journal of a tick, with another byte at one place: 25 has the command's kind, and 26 to 33 the ticks.
@@ -80,42 +92,41 @@ fn a_body_that_is_no_command_is_told(rt: HostRuntime) -> Result<(), Fail> {
     for (place, byte) in [(25, 9), (26, 1)] {
         let mut bytes = ONE_TICK;
         bytes[place] = byte;
-        let mut disk = with_journal(&rt, rt.alloc(), &bytes)?;
-        let outcome = call_on(&rt, rt.alloc(), "show", b"", &mut disk)?;
-        assert_eq!(rt; outcome.status, 9, "{place}");
-        assert_eq!(rt; outcome.written(), b"entry 1\n".as_slice(), "{place}");
+        let disk = with_journal(rt.alloc(), &bytes)?;
+        check_on(&rt, rt.alloc(), disk, &[bad("show", "entry 1\n")])?;
     }
     Ok(())
 }
 
+const NOTHING_SHOWN: &str = "open 0\nsessions 0\nclock 0 timers 0\nend shown\n";
+
 #[test]
 fn a_journal_is_made_once(rt: HostRuntime) -> Result<(), Fail> {
-    let mut disk = empty(&rt, rt.alloc(), &[])?;
-    for (line, status, written) in [
-        (RUN, 9, "damaged 0\n"),
-        ("show", 9, "damaged 0\n"),
-        ("init", 0, "created\n"),
-        ("init", 11, "exists\n"),
-        (
-            "show",
-            0,
-            "open 0\nsessions 0\nclock 0 timers 0\nend shown\n",
-        ),
-    ] {
-        let outcome = call_on(&rt, rt.alloc(), line, b"", &mut disk)?;
-        assert_eq!(rt; outcome.status, status, "{line}");
-        assert_eq!(rt; outcome.written(), written.as_bytes(), "{line}");
+    let cases = [
+        bad(RUN, "damaged 0\n"),
+        bad("show", "damaged 0\n"),
+        without_script("init", 0, "created\n"),
+        without_script("init", 11, "exists\n"),
+        without_script("show", 0, NOTHING_SHOWN),
+    ];
+    check_on(&rt, rt.alloc(), empty(rt.alloc(), &[])?, &cases)
+}
+
+/// A call that the disk fails.
+fn failed(line: &str) -> Case<'_> {
+    Case {
+        line,
+        script: ONE_LOG.script,
+        status: 6,
+        written: "disk\n",
     }
-    Ok(())
 }
 
 #[test]
 fn each_call_of_init_may_fail(rt: HostRuntime) -> Result<(), Fail> {
     for failing in 1..6u64 {
-        let mut disk = empty(&rt, rt.alloc(), &[failing])?;
-        let outcome = call_on(&rt, rt.alloc(), "init", b"", &mut disk)?;
-        assert_eq!(rt; outcome.status, 6, "call {failing}");
-        assert_eq!(rt; outcome.written(), b"disk\n".as_slice(), "call {failing}");
+        let disk = empty(rt.alloc(), &[failing])?;
+        check_on(&rt, rt.alloc(), disk, &[failed("init")])?;
     }
     Ok(())
 }
@@ -123,10 +134,8 @@ fn each_call_of_init_may_fail(rt: HostRuntime) -> Result<(), Fail> {
 #[test]
 fn a_journal_that_cannot_be_read_is_told(rt: HostRuntime) -> Result<(), Fail> {
     for failing in [6, 7] {
-        let mut disk = created(&rt, rt.alloc(), &[failing])?;
-        let outcome = call_on(&rt, rt.alloc(), RUN, ONE_LOG.script.as_bytes(), &mut disk)?;
-        assert_eq!(rt; outcome.status, 6, "call {failing}");
-        assert_eq!(rt; outcome.written(), b"disk\n".as_slice(), "call {failing}");
+        let disk = created(&rt, rt.alloc(), &[failing])?;
+        check_on(&rt, rt.alloc(), disk, &[failed(RUN)])?;
     }
     Ok(())
 }
@@ -166,18 +175,16 @@ const FIRST_POST: &str = concat!(
     "end quiet\n",
 );
 
+/// The next run finds nothing of it.
 #[test]
 fn a_refused_command_is_not_journaled(rt: HostRuntime) -> Result<(), Fail> {
-    let mut disk = created(&rt, rt.alloc(), &[])?;
-    call_on(&rt, rt.alloc(), RUN, COUNTER.as_bytes(), &mut disk)?;
-    let before = disk.bytes(Part::Journal).to_vec(rt.alloc())?;
     let script = post(rt.alloc(), 257)?;
-    let refused = call_on(&rt, rt.alloc(), RUN, script.slice(), &mut disk)?;
-    assert_eq!(rt; refused.status, 0);
-    assert!(rt; refused.written().ends_with(REFUSED.as_bytes()));
-    assert_eq!(rt; disk.bytes(Part::Journal), before.as_slice());
-    let taken = call_on(&rt, rt.alloc(), RUN, b"post s inc\n", &mut disk)?;
-    assert_eq!(rt; taken.written(), FIRST_POST.as_bytes());
+    let start = (RUN, COUNTER.as_bytes());
+    let refused = last_call(&rt, rt.alloc(), &[start], RUN, script.slice())?.ends(0, REFUSED);
+    assert!(rt; refused);
+    let before = [start, (RUN, script.slice())];
+    let taken = last_call(&rt, rt.alloc(), &before, RUN, b"post s inc\n")?.ends(0, FIRST_POST);
+    assert!(rt; taken);
     Ok(())
 }
 
@@ -211,18 +218,21 @@ const STEPS_LEFT: &str = concat!(
     "end quiet\n",
 );
 
-#[test]
-fn the_steps_that_are_left_are_taken_later(rt: HostRuntime) -> Result<(), Fail> {
-    let mut script = TextWriter::new(rt.alloc());
+/// The counter, and three posts to it.
+fn three_posts(alloc: Global) -> Result<TextWriter, NoMemory> {
+    let mut script = TextWriter::new(alloc);
     script.text(COUNTER)?;
     script.text("post s inc\npost s inc\npost s inc\n")?;
-    let mut disk = created(&rt, rt.alloc(), &[])?;
-    let words = "run --workers 0 --budget 2";
-    let first = call_on(&rt, rt.alloc(), words, script.slice(), &mut disk)?;
-    assert_eq!(rt; first.status, 8);
-    assert!(rt; first.written().ends_with(BUDGET_USED.as_bytes()));
-    let later = call_on(&rt, rt.alloc(), RUN, b"", &mut disk)?;
-    assert_eq!(rt; later.status, 0);
-    assert_eq!(rt; later.written(), STEPS_LEFT.as_bytes());
+    Ok(script)
+}
+
+#[test]
+fn the_steps_that_are_left_are_taken_later(rt: HostRuntime) -> Result<(), Fail> {
+    let script = three_posts(rt.alloc())?;
+    let line = "run --workers 0 --budget 2";
+    let used = last_call(&rt, rt.alloc(), &[], line, script.slice())?.ends(8, BUDGET_USED);
+    assert!(rt; used);
+    let left = last_call(&rt, rt.alloc(), &[(line, script.slice())], RUN, b"")?.ends(0, STEPS_LEFT);
+    assert!(rt; left);
     Ok(())
 }

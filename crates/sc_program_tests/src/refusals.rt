@@ -1,10 +1,11 @@
-use crate::program::{RUN, call, call_over};
+use crate::program::{AMPLE, Case, RUN, Streams, call_over, check, check_over, created};
 use crate::reports::ONE_LOG;
 use sc_base::TextWriter;
-use sc_dev::{MemSink, MemSource, Source};
 use sc_types::NoMemory;
 use std::alloc::Global;
+use std::sync::Wait;
 use std::test::Fail;
+use std::thread::Threads;
 
 #[test]
 fn other_words_are_no_command(rt: HostRuntime) -> Result<(), Fail> {
@@ -26,22 +27,44 @@ fn other_words_are_no_command(rt: HostRuntime) -> Result<(), Fail> {
         "gen 1 100001",
         "help",
     ] {
-        let outcome = call(&rt, rt.alloc(), line, ONE_LOG.as_bytes())?;
-        assert_eq!(rt; outcome.status, 1, "{line}");
-        assert_eq!(rt; outcome.written(), b"words\n".as_slice(), "{line}");
+        let case = Case {
+            line,
+            script: ONE_LOG,
+            status: 1,
+            written: "words\n",
+        };
+        check(&rt, rt.alloc(), &case)?;
     }
     Ok(())
 }
 
+/// A read would fail, and be told.
 #[test]
 fn nothing_is_read_for_other_words(rt: HostRuntime) -> Result<(), Fail> {
-    for (line, want) in [("walk", 1), ("show", 0), ("gen 3 1", 0)] {
-        let mut source = MemSource::new(rt.alloc(), b"script", 1000, &[])?;
-        let mut sink = MemSink::new(rt.alloc(), 100, 1000, &[])?;
-        let status = call_over(&rt, rt.alloc(), line, &mut source, &mut sink)?;
-        assert_eq!(rt; status, want, "{line}");
-        let mut left = [0u8; 10];
-        assert_eq!(rt; source.read(&mut left).ok(), Some(6), "{line}");
+    let streams = Streams {
+        failing_reads: &[1],
+        ..AMPLE
+    };
+    for (line, status, written) in [
+        ("walk", 1, "words\n"),
+        (
+            "show",
+            0,
+            "open 0\nsessions 0\nclock 0 timers 0\nend shown\n",
+        ),
+        (
+            "gen 0 1",
+            0,
+            "gen 0 1\nentries 19 steps 9 sum 1\nend quiet\n",
+        ),
+    ] {
+        let case = Case {
+            line,
+            script: "script",
+            status,
+            written,
+        };
+        check_over(&rt, rt.alloc(), &streams, &case)?;
     }
     Ok(())
 }
@@ -93,12 +116,27 @@ const TOO_HEAVY: &str = concat!(
 #[test]
 fn the_weight_of_a_post_is_bounded(rt: HostRuntime) -> Result<(), Fail> {
     for (bytes, end) in [(3341, POSTED), (3342, TOO_HEAVY)] {
-        let script = heavy_script(rt.alloc(), bytes)?;
-        let mut source = MemSource::new(rt.alloc(), script.slice(), 100_000, &[])?;
-        let mut sink = MemSink::new(rt.alloc(), 2_000_000, 100_000, &[])?;
-        let status = call_over(&rt, rt.alloc(), RUN, &mut source, &mut sink)?;
-        assert_eq!(rt; status, 0);
-        assert!(rt; sink.bytes().ends_with(end.as_bytes()), "{bytes}");
+        let is_told = ends_with(&rt, rt.alloc(), bytes, end)?;
+        assert!(rt; is_told, "{bytes} bytes");
     }
     Ok(())
+}
+
+/// Whether the report of that script ends so.
+fn ends_with<R: Threads + Wait + Sync>(
+    rt: &R,
+    alloc: Global,
+    bytes: usize,
+    end: &str,
+) -> Result<bool, NoMemory> {
+    let streams = Streams {
+        most_read: 100_000,
+        most_written: 100_000,
+        room: 2_000_000,
+        ..AMPLE
+    };
+    let script = heavy_script(alloc, bytes)?;
+    let mut disk = created(rt, alloc, &[])?;
+    let outcome = call_over(rt, alloc, RUN, script.slice(), &streams, &mut disk)?;
+    Ok(outcome.ends(0, end))
 }

@@ -1,4 +1,4 @@
-use crate::program::{RUN, call};
+use crate::program::{Case, RUN, check};
 use std::test::Fail;
 
 /// A chart of one state, which logs as it is entered, and a session of it.
@@ -60,13 +60,13 @@ fn a_script_gives_its_report(rt: HostRuntime) -> Result<(), Fail> {
         (ONE_LOG_AND_A_POST, ONE_LOG_AND_A_POST_REPORT),
         (GO_TWICE, GO_TWICE_REPORT),
     ] {
-        let outcome = call(&rt, rt.alloc(), RUN, script.as_bytes())?;
-        assert_eq!(rt; outcome.status, 0, "the status of {script}");
-        assert_eq!(rt;
-            outcome.written(),
-            report.as_bytes(),
-            "the report of {script}"
-        );
+        let case = Case {
+            line: RUN,
+            script,
+            status: 0,
+            written: report,
+        };
+        check(&rt, rt.alloc(), &case)?;
     }
     Ok(())
 }

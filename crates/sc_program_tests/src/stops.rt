@@ -38,17 +38,9 @@ fn run_until<R: Threads + Wait + Sync>(
     let outcome = call_on(rt, alloc, RUN, row.script.as_bytes(), &mut disk)?;
     Ok(Stopped {
         status: outcome.status,
-        acknowledged: entries(outcome.written()),
+        acknowledged: outcome.lines_with(b"= "),
         disk,
     })
-}
-
-/// How many entries a report has. No command of these scripts is refused.
-fn entries(report: &[u8]) -> usize {
-    report
-        .windows(3)
-        .filter(|piece| *piece == b"\n= ".as_slice())
-        .count()
 }
 
 /// Whether `show` tells on a disk what was acknowledged, or that and one command more.
@@ -78,25 +70,22 @@ fn is_told_after_stop<R: Threads + Wait + Sync>(
     is_told(rt, alloc, row, run.acknowledged, &mut left)
 }
 
-/// A run whose disk fails at one call. What is there then, and what each stop leaves of it, holds every command that was
-/// acknowledged.
-fn check_call<R: Abort + Threads + Wait + Sync>(
+/// Whether every command that was acknowledged is told of a run whose disk fails at one call, as the disk is then, and as
+/// each stop leaves it.
+fn keeps_all<R: Threads + Wait + Sync>(
     rt: &R,
     alloc: Global,
     row: &Row,
     failing: u64,
-) -> Result<(), Fail> {
+) -> Result<bool, NoMemory> {
     let mut run = run_until(rt, alloc, row, failing)?;
-    assert_eq!(rt; run.status, 6, "call {failing}");
-    for gate in [0, 1] {
-        let is_told = is_told_after_stop(rt, alloc, row, &run, &[gate])?;
-        assert!(rt; is_told, "a stop after call {failing}, gates {gate}");
-    }
-    let is_prefix = is_told_after_stop(rt, alloc, row, &run, &ENTRY)?;
-    assert!(rt; is_prefix, "a stop after call {failing}, an entry");
-    let goes_on = is_told(rt, alloc, row, run.acknowledged, &mut run.disk)?;
-    assert!(rt; goes_on, "call {failing} without a stop");
-    Ok(())
+    Ok(
+        run.status == 6
+            && is_told_after_stop(rt, alloc, row, &run, &[0])?
+            && is_told_after_stop(rt, alloc, row, &run, &[1])?
+            && is_told_after_stop(rt, alloc, row, &run, &ENTRY)?
+            && is_told(rt, alloc, row, run.acknowledged, &mut run.disk)?,
+    )
 }
 
 /// So at each call of a run of so many commands, which ends well where a later call fails.
@@ -108,10 +97,9 @@ fn check<R: Abort + Threads + Wait + Sync>(
 ) -> Result<(), Fail> {
     let end = FIRST_CALL + OPENING_CALLS + 4 * u64::from(commands);
     for failing in FIRST_CALL..end {
-        check_call(rt, alloc, row, failing)?;
+        assert!(rt; keeps_all(rt, alloc, row, failing)?, "call {failing}");
     }
-    let whole = run_until(rt, alloc, row, end)?;
-    assert_eq!(rt; whole.status, 0);
+    assert_eq!(rt; run_until(rt, alloc, row, end)?.status, 0);
     Ok(())
 }
 
