@@ -1,8 +1,9 @@
-ghost use Rattle.std.specs.Prelude.{◌≡◌, []};
+ghost use Rattle.std.specs.Prelude.{◌≡◌, ◌++◌, ◌∷◌, [], OnOk};
+ghost use Rattle.sc_core.specs.declared.change.Change.TheVariants as change;
 
 use crate::change::Change;
-use sc_base::{Queue, Sequence, Word};
-use sc_types::Delivery;
+use sc_base::{Boxed, NoMemory, Queue, Sequence, Word};
+use sc_types::{Delivery, Event};
 use std::alloc::Global;
 
 /// A session by its name and its place.
@@ -37,5 +38,13 @@ impl<P: Drop> Draft<P> {
             events,
             delayed,
         }
+    }
+
+    /// Prepares that an event joins the internal queue of the session at a place.
+    pub(crate) fn tell(&mut self, alloc: Global, place: usize, event: Event) -> Result<(), NoMemory>
+        ensures { OnOk result (self.new ≡ record self.old { changes = self.old.changes ++ change.Tell place event ∷ [] }) }
+    {
+        let event = Boxed::new(alloc, event)?;
+        self.changes.push(Change::Tell { place, event })
     }
 }

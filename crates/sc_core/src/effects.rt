@@ -90,8 +90,8 @@ impl<P: Drop> Body<P> {
         if !is_running(&after.phase) {
             return Ok(Delivery::Unreachable);
         }
-        let event = Boxed::new(alloc, communication_error(alloc, sendid)?)?;
-        draft.changes.push(Change::Tell { place, event })?;
+        let event = communication_error(alloc, sendid)?;
+        draft.tell(alloc, place, event)?;
         Ok(Delivery::Unreachable)
     }
 

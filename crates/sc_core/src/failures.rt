@@ -1,8 +1,9 @@
-ghost use Rattle.std.specs.Prelude.{◌≡◌, ◌++◌, true, IfOk, codes};
+ghost use Rattle.std.specs.Prelude.{◌≡◌, ◌++◌, [], true, IfOk, codes};
 ghost use Rattle.sc_base.specs.Text.{is_name};
 ghost use Rattle.sc_core.specs.Deliveries.{unborn_event};
 ghost use Rattle.sc_core.specs.Endings.{end_event, name_in, runaway_event};
 ghost use Rattle.sc_core.specs.Ticking.{failure_of};
+ghost use Rattle.sc_types.specs.declared.event.Kind.TheVariants.{External};
 
 use sc_base::{Name, NoMemory, Plain, SharedBytes, TextWriter, Unfit};
 use sc_types::{Data, Event, How, Kind};
@@ -87,10 +88,25 @@ pub(crate) fn done_invoke(
 ) -> Result<Option<Event>, NoMemory>
     ensures { IfOk result (λ e. e ≡ end_event invokeid.now (How.Final payload.now)) }
 {
-    let Some(name) = done_name(alloc, invokeid)? else {
-        return Ok(None);
-    };
-    Ok(Some(Event {
+    match done_name(alloc, invokeid)? {
+        Some(name) => Ok(Some(done_event(name, invokeid, payload)?)),
+        None => Ok(None),
+    }
+}
+
+fn done_event(name: Name, invokeid: &SharedBytes, payload: &Data) -> Result<Event, NoMemory>
+    ensures { IfOk result (λ e. e ≡ record {
+      number = 0;
+      name = name;
+      kind = External;
+      sendid = [];
+      origin = [];
+      origintype = [];
+      invokeid = invokeid.now;
+      payload = payload.now;
+    }) }
+{
+    Ok(Event {
         number: 0,
         name,
         kind: Kind::External,
@@ -99,7 +115,7 @@ pub(crate) fn done_invoke(
         origintype: SharedBytes::empty(),
         invokeid: invokeid.copy()?,
         payload: payload.copy()?,
-    }))
+    })
 }
 
 fn runaway_name(alloc: Global) -> Result<Name, NoMemory>

@@ -57,21 +57,41 @@ fn child_session(
         chart,
         pairs,
     } = invocation;
-    let link = InvokerImage {
+    let link = link(invoker, invokeid)?;
+    let state = fresh_state(alloc, &child, &chart, pairs)?;
+    Boxed::new(alloc, invoked(alloc, state, link, depth))
+}
+
+fn link(invoker: &Word, invokeid: SharedBytes) -> Result<InvokerImage, NoMemory>
+    ensures { IfOk result (λ i. i ≡ record { session = invoker.now; invokeid = invokeid; cut = false }) }
+{
+    Ok(InvokerImage {
         session: invoker.copy()?,
         invokeid,
         cut: false,
-    };
-    let session = Session {
-        state: fresh_state(alloc, &child, &chart, pairs)?,
+    })
+}
+
+/// A session in this state, with nothing in its queues and no child.
+fn invoked(alloc: Global, state: SessionState, link: InvokerImage, depth: u32) -> Session
+    ensures image { session_image result ≡ record {
+      state = state;
+      queued = [];
+      flagged = false;
+      invoker = Some link;
+      depth = depth;
+    } }
+    ensures children { result.children.items ≡ [] }
+{
+    Session {
+        state,
         failures: RoomyQueue::new(alloc),
         queued: RoomyQueue::new(alloc),
         flagged: false,
         invoker: Some(link),
         depth,
         children: RoomyQueue::new(alloc),
-    };
-    Boxed::new(alloc, session)
+    }
 }
 
 impl<P: Drop> Body<P> {

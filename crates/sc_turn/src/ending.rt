@@ -58,6 +58,7 @@ struct KeptParts {
     entered: ShortList,
 }
 
+#[inline(always)]
 fn kept(
     alloc: Global,
     t: &Tables,
@@ -84,6 +85,7 @@ fn kept(
 }
 
 /// The states that are active, and those that were entered.
+#[inline(always)]
 fn sets(alloc: Global, t: &Tables, x: &RunState) -> Result<(ShortList, ShortList), NoMemory>
     requires { IsOver t.now x.now }
     ensures { IfOk result (λ sets. sets
@@ -95,6 +97,7 @@ fn sets(alloc: Global, t: &Tables, x: &RunState) -> Result<(ShortList, ShortList
 }
 
 /// The session after a turn, of what it keeps and of what the run holds, which is moved, with the run's effects and logs.
+#[inline(always)]
 fn moved(
     kept: KeptParts,
     x: RunState,
