@@ -42,7 +42,8 @@ impl<P: Drop> Draft<P> {
 
     /// Prepares that an event joins the internal queue of the session at a place.
     pub(crate) fn tell(&mut self, alloc: Global, place: usize, event: Event) -> Result<(), NoMemory>
-        ensures { OnOk result (self.new ≡ record self.old { changes = self.old.changes ++ change.Tell place event ∷ [] }) }
+        ensures { OnOk result
+            (self.new ≡ record self.old { changes = self.old.changes ++ change.Tell place event ∷ [] }) }
     {
         let event = Boxed::new(alloc, event)?;
         self.changes.push(Change::Tell { place, event })

@@ -37,7 +37,8 @@ sent_to m ks name who r =
 
 -- what becomes of a send that has this id, or for which none could be made
 abbrev pub posted_with : Members → List ℕ → Receiver → ℕ → Data → Running → Option (List ℕ) → Outcome
-posted_with m name who delay payload r id = option_map_or (λ (i : List ℕ). post i name who delay payload r) id (send_fault m r)
+posted_with m name who delay payload r id =
+    option_map_or (λ (i : List ℕ). post i name who delay payload r) id (send_fault m r)
 
 -- an id was written, and it was counted
 pub record IsWritten (place id : List ℕ) (old new : Running) : Type 0 where

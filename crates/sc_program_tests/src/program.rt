@@ -13,8 +13,8 @@ pub const RUN: &str = "run --workers 0";
 /// The most bytes that the journal of a script has whose posts are as heavy as can be.
 const ROOM: u64 = 2_500_000;
 
-/// Streams in memory: the most bytes that a read or a write takes, at least 1, the numbers of the calls that fail, counted from 1, and
-/// the room for what is written.
+/// Streams in memory: the most bytes that a read or a write takes, at least 1; the numbers of the calls that fail,
+/// counted from 1; and the room for what is written.
 #[derive(Clone, Copy)]
 pub struct Streams<'a> {
     pub most_read: usize,
@@ -78,7 +78,8 @@ pub fn created<R: Threads + Wait + Sync>(
     Ok(disk)
 }
 
-/// Calls the program with the words of a command line, over streams that never fail and a journal that was just created.
+/// Calls the program with the words of a command line, over streams that never fail and a journal that was just
+/// created.
 pub fn call<R: Threads + Wait + Sync>(
     rt: &R,
     alloc: Global,

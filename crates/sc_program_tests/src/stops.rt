@@ -70,8 +70,8 @@ fn is_told_after_stop<R: Threads + Wait + Sync>(
     is_told(rt, alloc, row, run.acknowledged, &mut left)
 }
 
-/// Whether every command that was acknowledged is told of a run whose disk fails at one call, as the disk is then, and as
-/// each stop leaves it.
+/// Whether every command that was acknowledged is told of a run whose disk fails at one call, as the disk is then, and
+/// as each stop leaves it.
 fn keeps_all<R: Threads + Wait + Sync>(
     rt: &R,
     alloc: Global,

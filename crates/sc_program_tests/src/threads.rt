@@ -110,8 +110,8 @@ fn two_turns_are_made_at_once(rt: HostRuntime) -> Result<(), Fail> {
     Ok(())
 }
 
-/// The first call of a run behind those of `init`, and one past the last of a run of 2 commands of the set-up, 4 posts and
-/// 5 steps, which the opening precedes.
+/// The first call of a run behind those of `init`, and one past the last of a run of 2 commands of the set-up, 4 posts
+/// and 5 steps, which the opening precedes.
 const CALLS: std::ops::Range<u64> = 6..6 + 2 + 4 * (2 + 4 + 5);
 
 /// The first call behind the opening and the set-up.
@@ -127,8 +127,8 @@ fn a_fault_of_the_disk_loses_nothing_that_was_acknowledged(rt: HostRuntime) -> R
     Ok(())
 }
 
-/// Whether a run whose disk fails at one call tells so, goes on, and keeps what it acknowledged, or that and one command
-/// more.
+/// Whether a run whose disk fails at one call tells so, goes on, and keeps what it acknowledged, or that and one
+/// command more.
 fn loses_nothing<R: Threads + Wait + Sync>(
     rt: &R,
     alloc: Global,

@@ -96,7 +96,8 @@ fn sets(alloc: Global, t: &Tables, x: &RunState) -> Result<(ShortList, ShortList
     Ok((configuration, entered))
 }
 
-/// The session after a turn, of what it keeps and of what the run holds, which is moved, with the run's effects and logs.
+/// The session after a turn, of what it keeps and of what the run holds, which is moved, with the run's effects and
+/// logs.
 #[inline(always)]
 fn moved(
     kept: KeptParts,
