@@ -1,5 +1,5 @@
-use crate::program::{AMPLE, Case, RUN, Streams, call_with, check_over, created};
-use crate::reports::ONE_LOG;
+use crate::program::{AMPLE, Case, RUN, Streams, call_surely, call_with, check_over, created};
+use crate::reports::{ONE_LOG, ONE_LOG_REPORT};
 use sc_dev::{OpenGate, SureSink, SureSource};
 use sc_types::NoMemory;
 use std::alloc::Global;
@@ -82,5 +82,6 @@ fn sure_status<R: Threads + Wait + Sync>(rt: &R, alloc: Global) -> Result<u8, No
 #[test]
 fn devices_that_never_fail_serve_a_whole_run(rt: HostRuntime) -> Result<(), Fail> {
     assert_eq!(rt; sure_status(&rt, rt.alloc())?, 0);
+    assert!(rt; call_surely(&rt, rt.alloc(), ONE_LOG)?.is(0, ONE_LOG_REPORT));
     Ok(())
 }

@@ -28,27 +28,29 @@ pub const COUNTER: &str = concat!(
     "\nstart s n\n",
 );
 
-/// What a new journal holds after a run of a script.
+/// What a new journal holds after runs of scripts, one after another.
 fn journal_after<R: Threads + Wait + Sync>(
     rt: &R,
     alloc: Global,
-    script: &[u8],
+    scripts: &[&[u8]],
 ) -> Result<Bytes, NoMemory> {
     let mut disk = created(rt, alloc, &[])?;
-    call_on(rt, alloc, RUN, script, &mut disk)?;
+    for script in scripts {
+        call_on(rt, alloc, RUN, script, &mut disk)?;
+    }
     Bytes::from_slice(alloc, disk.bytes(Part::Journal))
 }
 
 #[test]
 fn a_command_is_journaled_as_these_bytes(rt: HostRuntime) -> Result<(), Fail> {
-    let journal = journal_after(&rt, rt.alloc(), b"tick 5\n")?;
+    let journal = journal_after(&rt, rt.alloc(), &[b"tick 5\n"])?;
     assert_eq!(rt; journal.slice(), ONE_TICK.as_slice());
     Ok(())
 }
 
 #[test]
 fn an_empty_script_journals_nothing(rt: HostRuntime) -> Result<(), Fail> {
-    let journal = journal_after(&rt, rt.alloc(), b"")?;
+    let journal = journal_after(&rt, rt.alloc(), &[b""])?;
     assert_eq!(rt; journal.slice(), EMPTY.as_slice());
     Ok(())
 }
@@ -64,12 +66,24 @@ fn with_journal(alloc: Global, bytes: &[u8]) -> Result<MemDisk, Fail>
     Ok(disk)
 }
 
-/// A run of it leaves it as it was.
+/// What a run on a journal of these bytes leaves there.
+fn left_by_run<R: Threads + Wait + Sync>(rt: &R, alloc: Global, bytes: &[u8]) -> Result<Bytes, Fail>
+    requires some { 1 ≤ length bytes.now }
+    requires few { length bytes.now ≤ 100 }
+{
+    let mut disk = with_journal(alloc, bytes)?;
+    call_on(rt, alloc, RUN, b"", &mut disk)?;
+    Ok(Bytes::from_slice(alloc, disk.bytes(Part::Journal))?)
+}
+
 #[test]
 fn a_journal_that_was_cut_is_damaged(rt: HostRuntime) -> Result<(), Fail> {
     let disk = with_journal(rt.alloc(), &ONE_TICK[..30])?;
     let cases = [bad(RUN, "damaged 20\n"), bad("show", "damaged 20\n")];
-    check_on(&rt, rt.alloc(), disk, &cases)
+    check_on(&rt, rt.alloc(), disk, &cases)?;
+    let left = left_by_run(&rt, rt.alloc(), &ONE_TICK[..30])?;
+    assert_eq!(rt; left.slice(), &ONE_TICK[..30]);
+    Ok(())
 }
 
 fn without_script<'a>(line: &'a str, status: u8, written: &'a str) -> Case<'a> {
@@ -175,16 +189,24 @@ const FIRST_POST: &str = concat!(
     "end quiet\n",
 );
 
-/// The next run finds nothing of it.
 #[test]
-fn a_refused_command_is_not_journaled(rt: HostRuntime) -> Result<(), Fail> {
+fn a_refused_command_is_told(rt: HostRuntime) -> Result<(), Fail> {
     let script = post(rt.alloc(), 257)?;
     let start = (RUN, COUNTER.as_bytes());
     let refused = last_call(&rt, rt.alloc(), &[start], RUN, script.slice())?.ends(0, REFUSED);
     assert!(rt; refused);
     let before = [start, (RUN, script.slice())];
-    let taken = last_call(&rt, rt.alloc(), &before, RUN, b"post s inc\n")?.ends(0, FIRST_POST);
+    let taken = last_call(&rt, rt.alloc(), &before, RUN, b"post s inc\n")?.is(0, FIRST_POST);
     assert!(rt; taken);
+    Ok(())
+}
+
+#[test]
+fn a_refused_command_is_not_journaled(rt: HostRuntime) -> Result<(), Fail> {
+    let script = post(rt.alloc(), 257)?;
+    let before = journal_after(&rt, rt.alloc(), &[COUNTER.as_bytes()])?;
+    let after = journal_after(&rt, rt.alloc(), &[COUNTER.as_bytes(), script.slice()])?;
+    assert_eq!(rt; after.slice(), before.slice());
     Ok(())
 }
 
@@ -232,7 +254,7 @@ fn the_steps_that_are_left_are_taken_later(rt: HostRuntime) -> Result<(), Fail> 
     let line = "run --workers 0 --budget 2";
     let used = last_call(&rt, rt.alloc(), &[], line, script.slice())?.ends(8, BUDGET_USED);
     assert!(rt; used);
-    let left = last_call(&rt, rt.alloc(), &[(line, script.slice())], RUN, b"")?.ends(0, STEPS_LEFT);
+    let left = last_call(&rt, rt.alloc(), &[(line, script.slice())], RUN, b"")?.is(0, STEPS_LEFT);
     assert!(rt; left);
     Ok(())
 }

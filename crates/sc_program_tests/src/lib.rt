@@ -1,10 +1,12 @@
-//! Tests of the program as a whole over devices in memory: a script and charts with what is written
+//! Tests of the devices and of the program as a whole over devices in memory: a script and charts with what is written
 //! of them, words that are no command, devices that fail in mid-stream, what stops of the machine leave, and runs in
 //! threads.
 #![tactic(auto)]
 
 #[cfg(test)]
 mod checks;
+#[cfg(test)]
+mod devices;
 #[cfg(test)]
 mod drawn;
 #[cfg(test)]

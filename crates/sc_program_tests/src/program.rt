@@ -1,4 +1,4 @@
-use sc_dev::{Gate, MemDisk, MemSink, MemSource, OpenGate, Sink, Source};
+use sc_dev::{Gate, MemDisk, MemSink, MemSource, OpenGate, Sink, Source, SureSource};
 use sc_top::top;
 use sc_types::NoMemory;
 use std::alloc::Global;
@@ -54,6 +54,11 @@ impl Outcome {
             }
         }
         count
+    }
+
+    /// Whether the call ended with this status, and wrote this.
+    pub fn is(&self, status: u8, written: &str) -> bool {
+        self.status == status && self.written() == written.as_bytes()
     }
 
     /// Whether the call ended with this status, and what it wrote with these lines.
@@ -152,6 +157,19 @@ pub fn call_through<R: Threads + Wait + Sync, G: Gate>(
         streams.failing_writes,
     )?;
     let status = call_with(rt, alloc, line, &mut source, &mut sink, disk, gate)?;
+    Ok(Outcome { status, sink })
+}
+
+/// Runs a script on one thread over a source that never fails and a journal that was just created.
+pub fn call_surely<R: Threads + Wait + Sync>(
+    rt: &R,
+    alloc: Global,
+    script: &str,
+) -> Result<Outcome, NoMemory> {
+    let mut source = SureSource::new(alloc, script.as_bytes())?;
+    let mut sink = MemSink::new(alloc, AMPLE.room, AMPLE.most_written, &[])?;
+    let mut disk = created(rt, alloc, &[])?;
+    let status = call_with(rt, alloc, RUN, &mut source, &mut sink, &mut disk, &OpenGate)?;
     Ok(Outcome { status, sink })
 }
 

@@ -20,7 +20,8 @@ returns-clause-told g c = λ h t e sender same.
     let after = c.args.after.now in
     let found = sender_there (image c.args.self.now) c.args.place after h old t sender in
     let runs : is_running t.state.phase ≡ true = ap is_running found.is.phase ∙ sym c.if-not-is_running.ensures in
-    hears_drafted (stepper after.session c.args.place) h old c.tell.new.self c.args.place t e c.in_ok-event.event sender.draft sender.there
+    hears_drafted (stepper after.session c.args.place) h old c.tell.new.self c.args.place t e c.in_ok-event.event
+    sender.draft sender.there
     (sender_within (image c.args.self.now) c.args.place after h old t sender) runs
     (c.in_ok-event.ensures ∙ ap (λ id. platform_event (codes "error.communication") id Absent) (sym same))
     c.in_ok-tell.ensures
