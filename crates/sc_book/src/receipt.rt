@@ -3,7 +3,7 @@ use sc_types::{Delivery, LogLine, Reply};
 
 /// What a command was answered: the entry of the history that it became, by its number from 1 on, and what stands
 /// there beside the command.
-#[derive(Debug, Drop)]
+#[derive(Drop)]
 pub struct Receipt {
     pub number: u64,
     pub reply: Reply,

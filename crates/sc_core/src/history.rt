@@ -11,7 +11,7 @@ use std::marker::Model;
 
 /// What happened in a run, one entry for each command that was answered. Room for an entry is made before it is
 /// added, so that a command which was acknowledged is never left out for want of memory.
-#[derive(Debug, Drop)]
+#[derive(Drop)]
 pub struct History {
     store: Store,
     /// How many of them are accepted steps.

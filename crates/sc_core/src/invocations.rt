@@ -27,7 +27,7 @@ const CHILD_NAME_LIMIT: usize = 65_535;
 
 /// A session to be started: the id of the invocation, the session's name, its chart's, and what it is started with.
 /// SCXML 6.4.
-#[derive(Debug, Drop)]
+#[derive(Drop)]
 pub(crate) struct Invocation {
     pub(crate) invokeid: SharedBytes,
     pub(crate) child: Word,

@@ -48,7 +48,7 @@ pub enum Shown<'h> {
 }
 
 /// The entries of a history, in order.
-#[derive(Debug, Drop)]
+#[derive(Drop)]
 pub(crate) struct Store {
     kept: Vec<Kept>,
     whole: Vec<Entry>,

@@ -8,7 +8,7 @@ use sc_types::{Event, InvokerImage, Phase, SessionState};
 
 /// A session as the host's body holds it. What a post and a cancel look at stands together: among many sessions, each
 /// line of memory that a command touches is cold.
-#[derive(Debug, Drop)]
+#[derive(Drop)]
 pub struct Session {
     pub(crate) invoker: Option<InvokerImage>,
     pub(crate) depth: u32,

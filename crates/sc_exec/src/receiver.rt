@@ -10,7 +10,7 @@ use sc_types::{Invoked, To};
 use std::alloc::Global;
 
 /// Who receives an event: the session's own internal queue, or one whom the host knows.
-#[derive(Debug, Drop)]
+#[derive(Drop)]
 pub(crate) enum Receiver {
     Inside,
     Outside(To),

@@ -4,7 +4,7 @@ use sc_types::{Boxed, Effect, LogLine, Sequence, SessionState};
 use std::marker::Model;
 
 /// What a turn gives: the session after it, what the host is to do, in this order, and the log lines.
-#[derive(Debug, Drop)]
+#[derive(Drop)]
 pub struct TurnResult {
     after: Boxed<SessionState>,
     effects: Sequence<Effect>,

@@ -27,7 +27,7 @@ pub(crate) enum Form {
 }
 
 /// What a line says.
-#[derive(Debug, Drop)]
+#[derive(Drop)]
 pub(crate) enum Meaning {
     Blank,
     /// The lines that follow belong to the next client.

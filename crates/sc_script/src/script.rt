@@ -1,7 +1,7 @@
 use sc_types::{Command, Sequence};
 
 /// The commands of a script: those of the set-up, which come first, and those of each client.
-#[derive(Debug, Drop, PartialEq, Eq)]
+#[derive(Drop, PartialEq, Eq)]
 pub struct Script {
     pub setup: Sequence<Command>,
     /// At most 64 lists, of which each may be empty.

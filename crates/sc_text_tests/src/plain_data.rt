@@ -1,11 +1,7 @@
 use sc_base::{
-    BoxedSequence, Bytes, Name, NoMemory, Plain, PlainName, Queue, Sequence, SharedBytes,
-    TextWriter, Unfit, Word,
+    Bytes, Name, NoMemory, Plain, PlainName, Queue, Sequence, SharedBytes, TextWriter, Unfit,
 };
-use sc_types::{
-    Attribute, Chart, Command, Data, Entry, Event, Expr, Kind, LogLine, Member, Node, Reply, Tag,
-    Value, Who,
-};
+use sc_types::{Attribute, Chart, Data, Event, Expr, Kind, Member, Node, Tag, Value};
 use std::alloc::Global;
 use std::test::Fail;
 
@@ -133,25 +129,6 @@ fn chart(alloc: Global, text: &str) -> Result<Chart, NoMemory> {
     })
 }
 
-fn entry(alloc: Global, text: &str) -> Result<Entry, Unfit> {
-    let mut logs = Sequence::new(alloc);
-    logs.push(LogLine {
-        label: Bytes::new(alloc),
-        value: Value::Text(bytes(alloc, text)?),
-    })?;
-    Ok(Entry {
-        who: Who::Client(0),
-        command: Command::Post {
-            session: Word::of(alloc, b"s")?,
-            event: Word::of(alloc, b"go")?,
-            pairs: Sequence::new(alloc),
-        },
-        reply: Reply::Posted(1),
-        logs: BoxedSequence::new(alloc, logs)?,
-        sent: Sequence::new(alloc),
-    })
-}
-
 /// Whether a copy equals what it copies, and no other value.
 fn is_told_apart<T: Plain + PartialEq>(value: T, other: T) -> Result<bool, NoMemory> {
     let copy = value.copy()?;
@@ -162,14 +139,6 @@ fn is_told_apart<T: Plain + PartialEq>(value: T, other: T) -> Result<bool, NoMem
 fn a_copy_of_an_event_equals_it(rt: HostRuntime) -> Result<(), Fail> {
     let value = event(rt.alloc(), "a")?;
     let other = event(rt.alloc(), "b")?;
-    assert!(rt; is_told_apart(value, other)?);
-    Ok(())
-}
-
-#[test]
-fn a_copy_of_an_entry_equals_it(rt: HostRuntime) -> Result<(), Fail> {
-    let value = entry(rt.alloc(), "a")?;
-    let other = entry(rt.alloc(), "b")?;
     assert!(rt; is_told_apart(value, other)?);
     Ok(())
 }

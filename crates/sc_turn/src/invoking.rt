@@ -156,7 +156,7 @@ fn start_invoke(
 }
 
 /// What is started.
-#[derive(Debug, Drop)]
+#[derive(Drop)]
 struct Start {
     /// The state and the place of the invoke among its child elements.
     s: u32,

@@ -18,7 +18,7 @@ use sc_types::{Event, ShortList};
 use std::alloc::Global;
 
 /// What a round takes.
-#[derive(Debug, Drop)]
+#[derive(Drop)]
 pub(crate) enum Round {
     /// There is no round: the run rests, or has stopped.
     Rest,

@@ -6,7 +6,7 @@ use crate::value::PairList;
 use sc_base::{Boxed, Bytes, Plain, Word};
 
 /// What a client or a worker asks of the host.
-#[derive(Clone, Debug, Drop, PartialEq, Eq)]
+#[derive(Drop, PartialEq, Eq)]
 pub enum Command {
     /// Install a chart, given by its text, under a name.
     Install {
@@ -39,7 +39,7 @@ pub enum Command {
 }
 
 /// What the host answers.
-#[derive(Clone, Debug, Drop, PartialEq, Eq)]
+#[derive(Clone, Drop)]
 pub enum Reply {
     Installed,
     Started,
@@ -55,7 +55,7 @@ pub enum Reply {
 
 /// Why the host refuses a command, which then changes nothing. What is large stands in a place of its own, so that each
 /// other reply is small.
-#[derive(Clone, Debug, Drop, PartialEq, Eq)]
+#[derive(Clone, Drop)]
 pub enum Refusal {
     /// The text spells no legal chart.
     BadChart(Boxed<ChartFault>),
@@ -74,10 +74,6 @@ pub enum Refusal {
     Idle,
     /// A name that only an invoked session may have.
     BadName,
-}
-
-impl Plain for Command {
-    ghost clone_equals = { Prim.search rules };
 }
 
 impl Plain for Reply {

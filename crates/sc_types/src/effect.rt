@@ -1,12 +1,10 @@
-ghost use Rattle.std.proofs.Common.{rules};
-
 use crate::event::Event;
 use crate::host::To;
 use crate::value::PairList;
-use sc_base::{Plain, SharedBytes, Word};
+use sc_base::{SharedBytes, Word};
 
 /// What a turn asks the host to do. The host carries the effects out in the order in which the turn made them.
-#[derive(Clone, Debug, Drop, PartialEq, Eq)]
+#[derive(Drop)]
 pub enum Effect {
     /// Deliver an event, at once where the delay is 0. `<send>`, SCXML 6.2.
     Send {
@@ -37,8 +35,4 @@ pub enum Effect {
         child: Word,
         event: Event,
     },
-}
-
-impl Plain for Effect {
-    ghost clone_equals = { Prim.search rules };
 }

@@ -6,7 +6,7 @@ use sc_base::{Name, NoMemory, Plain, SharedBytes};
 use std::alloc::AllocError;
 
 /// What `_event.data` reads.
-#[derive(Clone, Debug, Drop, PartialEq, Eq)]
+#[derive(Clone, Drop, PartialEq, Eq)]
 pub enum Data {
     Absent,
     One(Value),
@@ -23,7 +23,7 @@ pub enum Kind {
 
 /// An event. One of an internal queue has the number 0; an external one has the number that the host gave it
 /// when it was queued. Its name has at most 256 bytes.
-#[derive(Debug, Drop, PartialEq, Eq)]
+#[derive(Drop, PartialEq, Eq)]
 pub struct Event {
     pub number: u128,
     pub name: Name,
@@ -47,7 +47,6 @@ impl Clone for Event {
     ghost is_clone = { λ e copy. copy ≡ e };
 
     fn clone(&self) -> Result<Self, AllocError> {
-        let payload = copied(&self.payload)?;
         Ok(Event {
             number: self.number,
             name: self.name.clone()?,
@@ -56,7 +55,7 @@ impl Clone for Event {
             origin: self.origin.clone()?,
             origintype: self.origintype.clone()?,
             invokeid: self.invokeid.clone()?,
-            payload,
+            payload: copied(&self.payload)?,
         })
     }
 }

@@ -14,7 +14,7 @@ pub enum Who {
 }
 
 /// What became of an effect of a step, or of a send that came due.
-#[derive(Clone, Debug, Drop, PartialEq, Eq)]
+#[derive(Clone, Drop)]
 pub enum Delivery {
     /// Put into a session's external queue under this number.
     Queued { number: u128, session: Word },
@@ -37,7 +37,7 @@ pub enum Delivery {
 }
 
 /// What a `<log>` wrote.
-#[derive(Debug, Drop, PartialEq, Eq)]
+#[derive(Drop)]
 pub struct LogLine {
     pub label: Bytes,
     pub value: Value,
@@ -46,7 +46,7 @@ pub struct LogLine {
 /// One event of the host machine: a command, who made it, and what the host answered, logged and delivered. Fields lie
 /// in memory in this order, and the reply, which holds 16-byte numbers, stands first, since that leaves no gaps: a
 /// history of a million posts is a million entries.
-#[derive(Clone, Debug, Drop, PartialEq, Eq)]
+#[derive(Drop)]
 pub struct Entry {
     pub reply: Reply,
     pub who: Who,
@@ -68,18 +68,13 @@ impl Clone for LogLine {
     ghost is_clone = { λ line copy. copy ≡ line };
 
     fn clone(&self) -> Result<Self, AllocError> {
-        let value = self.value.clone()?;
         Ok(LogLine {
             label: self.label.clone()?,
-            value,
+            value: self.value.clone()?,
         })
     }
 }
 
 impl Plain for LogLine {
     ghost clone_equals = { λ line copy same. same };
-}
-
-impl Plain for Entry {
-    ghost clone_equals = { Prim.search rules };
 }

@@ -1,8 +1,6 @@
-ghost use Rattle.std.proofs.Common.{rules};
-
 use crate::event::Event;
 use crate::session::SessionState;
-use sc_base::{Bytes, Plain, Queue, Sequence, SharedBytes, Word};
+use sc_base::{Bytes, Queue, Sequence, SharedBytes, Word};
 
 /// An installed chart: its name, and its text as it was given.
 #[derive(Drop)]
@@ -12,7 +10,7 @@ pub struct ChartImage {
 }
 
 /// The session that invoked another, under which id, and whether the two are cut off from one another.
-#[derive(Debug, Drop)]
+#[derive(Drop)]
 pub struct InvokerImage {
     pub session: Word,
     pub invokeid: SharedBytes,
@@ -33,7 +31,7 @@ pub struct SessionImage {
 }
 
 /// Who receives an event.
-#[derive(Clone, Debug, Drop, PartialEq, Eq)]
+#[derive(Drop)]
 pub enum To {
     Own,
     Parent,
@@ -44,7 +42,7 @@ pub enum To {
 
 /// A delayed send that is pending: the session that sent it, its number, and when it is due, in milliseconds
 /// of the host's clock.
-#[derive(Debug, Drop, PartialEq, Eq)]
+#[derive(Drop)]
 pub struct TimerImage {
     pub session: Word,
     /// Each send has a number of its own; a later one has a larger one.
@@ -66,8 +64,4 @@ pub struct HostImage {
     pub charts: Sequence<ChartImage>,
     pub sessions: Sequence<SessionImage>,
     pub timers: Sequence<TimerImage>,
-}
-
-impl Plain for To {
-    ghost clone_equals = { Prim.search rules };
 }

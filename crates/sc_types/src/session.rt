@@ -8,7 +8,7 @@ use sc_base::{Boxed, NoMemory, Plain, PlainName, Queue, Sequence, Shared, Shared
 use std::alloc::{AllocError, Global};
 
 /// How a session ended.
-#[derive(Clone, Debug, Drop, PartialEq, Eq)]
+#[derive(Clone, Drop)]
 pub enum How {
     /// By a top-level final state, with its done data.
     Final(Data),
@@ -18,7 +18,7 @@ pub enum How {
 }
 
 /// Where a session stands.
-#[derive(Clone, Debug, Drop, PartialEq, Eq)]
+#[derive(Clone, Drop)]
 pub enum Phase {
     /// Started, and not stepped yet.
     Fresh,
@@ -28,7 +28,7 @@ pub enum Phase {
 
 /// An invocation that runs: the state and the place among its children of the `<invoke>`, its id, and the
 /// child session.
-#[derive(Clone, Debug, Drop, PartialEq, Eq)]
+#[derive(Clone, Drop)]
 pub struct Invoked {
     pub state: u32,
     pub place: u32,
@@ -43,7 +43,7 @@ pub type Values = Sequence<(PlainName, Option<Value>)>;
 pub type Histories = Sequence<(u32, Sequence<u32>)>;
 
 /// A session between two turns. States are named by their numbers in document order, from 0.
-#[derive(Debug, Drop, PartialEq, Eq)]
+#[derive(Drop)]
 pub struct SessionState {
     pub session: Word,
     pub chart: Word,
@@ -68,7 +68,7 @@ pub struct SessionState {
 }
 
 /// What a turn begins with.
-#[derive(Clone, Debug, Drop, PartialEq, Eq)]
+#[derive(Clone, Drop)]
 pub enum Cue {
     /// The session's first turn.
     Fresh,

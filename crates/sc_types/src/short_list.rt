@@ -10,7 +10,7 @@ const NUMBERS_IN_PLACE: usize = 8;
 
 /// A growable list of the numbers of states or of transitions, which contracts see as a list. One of at most 8 numbers
 /// takes no memory beside itself: most sessions are in few states, and most microsteps take, exit and enter few.
-#[derive(Debug, Drop)]
+#[derive(Drop)]
 pub struct ShortList {
     numbers: SmallVec<u32, NUMBERS_IN_PLACE>,
 }

@@ -14,7 +14,7 @@ pub enum Mark {
 }
 
 /// A piece of an expression or of a value literal, with white space free before it.
-#[derive(Clone, Debug, Drop, PartialEq, Eq)]
+#[derive(Drop, PartialEq, Eq)]
 pub enum Token {
     /// Letters, digits and `_`, of which the first is no digit.
     Word(Bytes),

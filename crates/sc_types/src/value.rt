@@ -8,7 +8,7 @@ use sc_base::{Bytes, NoMemory, Plain, PlainName, Sequence, is_text};
 use std::alloc::AllocError;
 
 /// A value of the data model.
-#[derive(Debug, Drop, PartialEq, Eq)]
+#[derive(Drop, PartialEq, Eq)]
 pub enum Value {
     Bool(bool),
     Int(i64),
