@@ -97,7 +97,7 @@ fn prepare<E: Engine>(
 }
 
 /// Answers a command, and makes all memory of its entry. The host and the log stay as they are.
-#[inline(never)]
+#[inline(always)]
 pub(crate) fn draft_entry<E: Engine>(
     alloc: Global,
     engine: &E,

@@ -51,6 +51,7 @@ impl<P: Drop> Body<P> {
     }
 
     /// The place of a session.
+    #[inline(always)]
     #[tactic(auto, using(crate::proofs::BodyLemmas::position_map))]
     pub(crate) fn session_place(&self, name: &Word) -> Option<usize>
         requires agrees { Agrees self.now }

@@ -91,6 +91,7 @@ impl<P: Drop> Body<P> {
     }
 
     /// Takes the front of the external queue of the session at a place.
+    #[inline(always)]
     pub(crate) fn take_front(&mut self, place: usize)
         requires agrees { Agrees self.old }
         requires within { place < length self.old.sessions.items }

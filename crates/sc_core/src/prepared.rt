@@ -38,6 +38,7 @@ impl<P: Drop> Prepared<P> {
     }
 
     /// One change, and the command is counted.
+    #[inline(always)]
     pub(crate) fn accepted(
         alloc: Global,
         reply: Reply,

@@ -77,6 +77,7 @@ impl<P: Drop> Body<P> {
     }
 
     /// Makes the room that a list of changes needs, so that they can be made without memory.
+    #[inline(always)]
     pub(crate) fn make_room(&mut self, changes: &Queue<Change<P>>) -> Result<(), NoMemory>
         requires agrees { Agrees self.old }
         requires targets { HaveTargets (length self.old.sessions.items) changes.now }

@@ -16,6 +16,7 @@ use sc_types::{Effect, Invoked, ShortList, Tag};
 use std::alloc::Global;
 
 /// The members of a row of states, ascending.
+#[inline(always)]
 pub fn members(alloc: Global, t: &Tables, row: &Row) -> Result<ShortList, NoMemory>
     requires { row.now.width ≡ state_count t.now }
     ensures value { IfOk result (λ ms. ms ≡ row.now.members) }

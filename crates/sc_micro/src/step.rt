@@ -29,6 +29,7 @@ use std::alloc::Global;
 /// transitions nothing changes. Transitions that selection keeps leave a run that fits its chart as one that fits, so
 /// that its configuration is a legal one. Out of memory, the run stands at some point of the microstep. SCXML Appendix
 /// D, microstep.
+#[inline(always)]
 pub fn microstep(
     alloc: Global,
     run: &mut Running,

@@ -55,6 +55,7 @@ impl<'k, K: Sink> Outlet<'k, K> {
     }
 
     /// Puts texts one behind another.
+    #[inline(always)]
     pub(crate) fn texts(&mut self, texts: &[&[u8]])
         ensures { Writes K.taken K.faults self.old self.new (joined (map (λ t. t.now) texts.now)) }
     {
@@ -64,6 +65,7 @@ impl<'k, K: Sink> Outlet<'k, K> {
     }
 
     /// Puts a number in decimal digits.
+    #[inline(always)]
     pub(crate) fn number<I: Integer>(&mut self, number: I)
         ensures { Writes K.taken K.faults self.old self.new (I.text number) }
     {
@@ -72,6 +74,7 @@ impl<'k, K: Sink> Outlet<'k, K> {
     }
 
     /// Puts a word and a number behind it.
+    #[inline(always)]
     pub(crate) fn counted<I: Integer>(&mut self, word: &[u8], number: I)
         ensures { Writes K.taken K.faults self.old self.new (word.now ++ I.text number) }
     {

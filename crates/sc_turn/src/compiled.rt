@@ -161,6 +161,7 @@ fn start(
 }
 
 /// The rounds of a turn, and the phase after them.
+#[inline(always)]
 fn rounds(alloc: Global, x: &mut RunState, plan: &Plan, limit: u64) -> Result<Phase, NoMemory>
     requires { IsOver plan.now x.old }
     ensures value { IfOk result (λ phase. (before : Session)

@@ -8,6 +8,7 @@ use sc_tables::Tables;
 use std::alloc::Global;
 
 /// The row of an ascending list of states.
+#[inline(always)]
 pub(crate) fn row_of(alloc: Global, t: &Tables, states: &[u32]) -> Result<Row, NoMemory>
     requires { IsTrue (are_states t.now states.now) }
     ensures { IfOk result (λ r. r ≡ record { width = state_count t.now; members = states.now }) }
