@@ -31,8 +31,19 @@ impl<'k, K: Sink> Outlet<'k, K> {
         }
     }
 
-    /// Puts bytes behind what was put before.
+    /// Puts bytes behind what was put before. Most find room in the piece as they are.
+    #[inline(always)]
     pub(crate) fn bytes(&mut self, bytes: &[u8])
+        ensures { Writes K.taken K.faults self.old self.new bytes.now }
+    {
+        if !self.piece.add_all(bytes) {
+            self.in_pieces(bytes);
+        }
+    }
+
+    /// Puts bytes behind what was put before, handing on each piece that they fill.
+    #[inline(never)]
+    fn in_pieces(&mut self, bytes: &[u8])
         ensures { Writes K.taken K.faults self.old self.new bytes.now }
     {
         let mut at = 0;

@@ -1,4 +1,4 @@
-ghost use Rattle.std.specs.Prelude.{◌≡◌, ◌<◌, ◌≤◌, [], ◌++◌, false, length, take};
+ghost use Rattle.std.specs.Prelude.{◌≡◌, ◌<◌, ◌≤◌, [], ◌++◌, false, length, take, true};
 ghost use Rattle.sc_report.specs.declared.piece.TheConstants.{PIECE};
 
 use arrayvec::ArrayVec;
@@ -28,6 +28,15 @@ impl Piece {
         Piece {
             bytes: ArrayVec::new(),
         }
+    }
+
+    /// Adds bytes where there is room for all of them, and answers whether there is.
+    #[inline(always)]
+    pub(crate) fn add_all(&mut self, bytes: &[u8]) -> bool
+        ensures added { result ≡ true → self.new ≡ self.old ++ bytes.now }
+        ensures full { result ≡ false → self.new ≡ self.old }
+    {
+        self.bytes.try_extend_from_slice(bytes).is_ok()
     }
 
     /// Adds the first of some bytes, so many as there is room for, and answers how many they are.

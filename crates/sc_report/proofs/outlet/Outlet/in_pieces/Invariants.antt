@@ -1,6 +1,6 @@
 use Rattle.std.proofs.Common.{◌≤◌, ◌-◌, length, take}
 use Rattle.sc_report.specs.Outlets.{Puts, seen}
-use Rattle.sc_report.proofs.outlet.Outlet.bytes.Given as goal
+use Rattle.sc_report.proofs.outlet.Outlet.in_pieces.Given as goal
 
 abbrev pub invariant-loop-at : goal.invariant-loop-at
 invariant-loop-at g l =

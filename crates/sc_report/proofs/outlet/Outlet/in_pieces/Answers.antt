@@ -1,7 +1,7 @@
 use Rattle.std.proofs.Common.{length-drop, arith}
 use Rattle.std.proofs.lemmas.List.{take_rest}
 use Rattle.sc_report.proofs.OutletLemmas.{puts_next}
-use Rattle.sc_report.proofs.outlet.Outlet.bytes.Goals as goal
+use Rattle.sc_report.proofs.outlet.Outlet.in_pieces.Goals as goal
 
 pub loop-at-preserved : goal.loop-at-preserved
 loop-at-preserved g c =
