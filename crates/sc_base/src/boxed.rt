@@ -39,6 +39,20 @@ impl<T> Boxed<T> {
     }
 }
 
+impl<T> Boxed<T> {
+    ghost use Rattle.std.specs.Borrow.{Lends, sem};
+    ghost use Rattle.std.specs.Prelude.{◌≡◌};
+    ghost use Rattle.sc_base.specs.contracts.boxed.Boxed.{the_row};
+
+    /// The value, to be changed in its place.
+    pub fn get_mut(&mut self) -> &mut T
+        ensures* writes_back { sem 𝓛 (Lends (the_row T.row) T.row self.entry result (λ w. w)) }
+        ensures value { result.now ≡ self.old }
+    {
+        &mut self.inner
+    }
+}
+
 impl<T: Drop> Boxed<T> {
     pub fn new(alloc: Global, value: T) -> Result<Boxed<T>, NoMemory>
         ensures { IfOk result (λ b. b ≡ value) }

@@ -33,6 +33,15 @@ impl<T> Queue<T> {
         }
     }
 
+    /// An empty queue whose first items, so many of them, take no further memory.
+    pub fn with_room(alloc: Global, count: usize) -> Result<Queue<T>, NoMemory>
+        ensures { IfOk result (λ q. q ≡ []) }
+    {
+        Ok(Queue {
+            items: VecDeque::with_capacity(alloc, count)?,
+        })
+    }
+
     pub fn len(&self) -> usize
         ensures { result ≡ length self.now }
     {

@@ -5,7 +5,7 @@ use Rattle.sc_types.specs.declared.host.HostImage.{HostImage}
 use Rattle.sc_core.specs.HostStates.{ArePlanned}
 use Rattle.sc_core.specs.Installing.{CanApplyAll, HaveTargets, apply, installed}
 use Rattle.sc_core.specs.declared.change.Change.{Change}
-use Rattle.sc_core.specs.declared.change.Change.TheVariants.{Count, Advance, Install, Start, Bear, PutState, TakeFront, Queue, Tell, Flag, CutOff, DropInvoke, End, Delay, Undo, Fire, Lose}
+use Rattle.sc_core.specs.declared.change.Change.TheVariants.{Count, Advance, Install, Start, Bear, PutState, TakeFront, Queue, Tell, Flag, CutOff, DropInvoke, End, Delay, Undo, Lose}
 
 -- they are made of the host machine that the others leave
 pub installed_more : {P : Type 0} (cs ds : List (Change P)) (g : HostImage)
@@ -44,5 +44,4 @@ planned_more f (DropInvoke place child ∷ cs) ds before after = planned_more f 
 planned_more f (End place ∷ cs) ds before after = planned_more f cs ds before after
 planned_more f (Delay send ∷ cs) ds before after = planned_more f cs ds before after
 planned_more f (Undo session id ∷ cs) ds before after = planned_more f cs ds before after
-planned_more f (Fire place id ∷ cs) ds before after = planned_more f cs ds before after
 planned_more f (Lose ∷ cs) ds before after = planned_more f cs ds before after

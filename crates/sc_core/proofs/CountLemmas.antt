@@ -17,7 +17,7 @@ use Rattle.sc_core.specs.Drafts.{IsOfStep, Stepper}
 use Rattle.sc_core.specs.Hosts.{with_session}
 use Rattle.sc_core.specs.Installing.{apply, installed}
 use Rattle.sc_core.specs.declared.change.Change.{Change}
-use Rattle.sc_core.specs.declared.change.Change.TheVariants.{Advance, Bear, Count, CutOff, Delay, DropInvoke, End, Fire, Flag, Install, Lose, PutState, Queue, Start, TakeFront, Tell, Undo}
+use Rattle.sc_core.specs.declared.change.Change.TheVariants.{Advance, Bear, Count, CutOff, Delay, DropInvoke, End, Flag, Install, Lose, PutState, Queue, Start, TakeFront, Tell, Undo}
 
 count_one : (p : TimerImage → Bool) (t : TimerImage) (ts : List TimerImage)
     → count_by p (t ∷ ts) ≡ cond (p t) 1 0 + count_by p ts
@@ -150,7 +150,6 @@ count_is who id (PutState place state) g of = absurd of
 count_is who id (TakeFront place) g of = absurd of
 count_is who id (Flag place) g of = absurd of
 count_is who id (End place) g of = absurd of
-count_is who id (Fire place i) g of = absurd of
 count_is who id Lose g of = absurd of
 
 -- after several

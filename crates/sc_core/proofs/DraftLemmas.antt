@@ -22,7 +22,7 @@ use Rattle.sc_types.specs.declared.host.TimerImage.{TimerImage}
 use Rattle.sc_types.specs.declared.host.To.{To}
 use Rattle.sc_types.specs.declared.session.SessionState.{SessionState}
 use Rattle.sc_core.specs.Births.{IsGrown, Sight, born_sight, sight, sights}
-use Rattle.sc_core.specs.Changes.{put_state, queue_at, tell}
+use Rattle.sc_core.specs.Changes.{numbered, put_state, queue_at, tell}
 use Rattle.sc_core.specs.Deliveries.{Delivered, arriving, delay_send, deliver, deliver_of, due_time, hand_to, hears, is_cut_from, left_as, next_send, queue, send_found, send_named, send_now, undo, unreachable, while_live}
 use Rattle.sc_core.specs.Drafts.{AreNumbered, Drafts, Follows, IsDraft, IsOfStep, IsSender, Notes, Own, Stepper, own, own_at, so_far}
 use Rattle.sc_core.specs.Hosts.{is_live, is_running, session_named, with_session}
@@ -367,7 +367,7 @@ unheard_drafted who g old place t e draft running =
 pub hand_drafted : {P : Type 0} (who : Stepper) (g : HostImage) (old new : Draft P) (receiver : ℕ) (r : SessionImage)
     (name : List ℕ) (e : Event) (told : Delivery) → IsDraft who g old → slice_get (so_far g old).sessions receiver ≡ Some r
     → old.events + 1 < 2 ^ 128
-    → new ≡ record old { changes = old.changes ++ Queue receiver e ∷ []; events = old.events + 1 }
+    → new ≡ record old { changes = old.changes ++ Queue receiver (numbered (old.events + 1) e) ∷ []; events = old.events + 1 }
     → told ≡ Queued (old.events + 1) name
     → Drafts who g old new (hand_to (so_far g old) name e (Some (receiver, r))) told
 hand_drafted {P = P} who g old new receiver r name e told draft there number made what =
@@ -379,12 +379,12 @@ hand_drafted {P = P} who g old new receiver r name e told draft there number mad
     let events : old.events + 1 ≡ h.events + 1 = ap (λ n. n + 1) draft.events in
     let put = record r { queued = r.queued ++ record e { number = h.events + 1 } ∷ [] } in
     let stays = set_stays who h receiver r put there refl refl draft.follows.sends in
-    one_drafted who g old new (Queue receiver e) d told draft (ap (λ (x : Draft P). x.changes) made)
+    one_drafted who g old new (Queue receiver (numbered (old.events + 1) e)) d told draft (ap (λ (x : Draft P). x.changes) made)
     (ap (λ (x : Draft P). x.sent) made) (ap (λ (x : Draft P). x.births) made)
     (ap (λ (x : Draft P). x.events) made ∙ events)
     (ap (λ (x : Draft P). x.delayed) made ∙ draft.delayed) (what ∙ ap (λ n. Queued n name) events)
     (record {
-      can = (within, omega (arith, number, events));
+      can = (within, omega (arith, number, events), events);
       target = tt;
       of_step = tt;
       makes = reached;

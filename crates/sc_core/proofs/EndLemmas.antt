@@ -17,7 +17,7 @@ use Rattle.sc_types.specs.declared.session.Phase.TheVariants as phase
 use Rattle.sc_types.specs.declared.session.SessionState.{SessionState}
 use Rattle.sc_core.specs.Births.{AreFrom, IsGrown, born_sight, sight, sights}
 use Rattle.sc_core.specs.Bodies.{Agrees, children_of, image, inviter, session_image}
-use Rattle.sc_core.specs.Changes.{clear_at, clear_in, put_state}
+use Rattle.sc_core.specs.Changes.{clear_at, clear_in, numbered, put_state}
 use Rattle.sc_core.specs.Deliveries.{Delivered, DeliveredAll, cut_off, hand_to, left_as, queue, while_live}
 use Rattle.sc_core.specs.Drafts.{IsSender, so_far, stepper}
 use Rattle.sc_core.specs.Endings.{cleared, end_at, end_event, end_in, end_with, is_left_by, one_delivery, tell_end, tell_invoker, with_children_left}
@@ -53,12 +53,12 @@ adds_none h k old is = record {
 
 -- an event joins a queue
 pub adds_queue : {P : Type 0} (h : HostImage) (old new : List (Change P)) (place : ℕ) (r : SessionImage) (e : Event)
-    → new ≡ old ++ Queue place e ∷ [] → slice_get h.sessions place ≡ Some r → h.events + 1 < 2 ^ 128
-    → Adds h old new (queue h place r e)
-adds_queue h old new place r e made there number = record {
-  more = Queue place e ∷ [];
+    (n : ℕ) → new ≡ old ++ Queue place (numbered n e) ∷ [] → slice_get h.sessions place ≡ Some r → h.events + 1 < 2 ^ 128
+    → n ≡ h.events + 1 → Adds h old new (queue h place r e)
+adds_queue h old new place r e n made there number next = record {
+  more = Queue place (numbered n e) ∷ [];
   changes = made;
-  can = ((slice_get_within h.sessions place r there, number), tt);
+  can = ((slice_get_within h.sessions place r there, number, next), tt);
   targets = λ n. (tt, tt);
   none = λ chart_of. tt;
   host = ap (λ o. option_map_or (λ (s : SessionImage). queue h place s e) o h) there;
@@ -203,15 +203,15 @@ told_none h old i e cut none =
 pub told_queued : {P : Type 0} (h : HostImage) (old new : Draft P) (i : InvokerImage) (e : Event) (place : ℕ) (r : SessionImage)
     (told : Delivery) → i.cut ≡ false → while_live (session_named h i.session) ≡ Some (place, r)
     → slice_get h.sessions place ≡ Some r → old.events ≡ h.events → old.events + 1 < 2 ^ 128
-    → new ≡ record old { changes = old.changes ++ Queue place e ∷ []; events = old.events + 1 }
+    → new ≡ record old { changes = old.changes ++ Queue place (numbered (old.events + 1) e) ∷ []; events = old.events + 1 }
     → told ≡ Queued (old.events + 1) i.session
     → Adds h old.changes new.changes (tell_invoker h i e).host × (told ≡ (tell_invoker h i e).what)
 told_queued {P = P} h old new i e place r told cut found there events number made what =
     let is : tell_invoker h i e ≡ hand_to h i.session e (Some (place, r)) =
     ap (λ b. if b then left_as h Dropped else hand_to h i.session e (while_live (session_named h i.session))) cut
     ∙ ap (hand_to h i.session e) found in
-    let adds = adds_queue h old.changes new.changes place r e (ap (λ (d : Draft P). d.changes) made) there
-    (omega (arith, events, number)) in (
+    let adds = adds_queue h old.changes new.changes place r e (old.events + 1) (ap (λ (d : Draft P). d.changes) made)
+    there (omega (arith, events, number)) (ap (λ n. n + 1) events) in (
       subst (λ (d : Delivered). Adds h old.changes new.changes d.host) (sym is) adds,
       what ∙ ap (λ n. Queued (n + 1) i.session) events ∙ sym (ap (λ (d : Delivered). d.what) is),
     )

@@ -25,14 +25,14 @@ use Rattle.sc_law.specs.Fitting.{Fits, FitsRun, HasCue, fresh, is_own_invoke, is
 use Rattle.sc_expr.specs.Reading.{expr_of}
 use Rattle.sc_law.specs.Legality.{legal_fault}
 use Rattle.sc_law.specs.LegalCharts.{legal_chart_of, legal_or_fault}
-use Rattle.sc_law.specs.Turn.{TurnResult, begin, turn}
+use Rattle.sc_law.specs.Turn.{begin, turn}
 use Rattle.sc_law.specs.Turned.{IsTurn, IsTurnOf, TurnedOf}
 use Rattle.sc_core.specs.Commands.{fresh_session}
 use Rattle.sc_core.specs.Cues.{cue_in, cue_of, outer_cue, queued_cue}
 use Rattle.sc_core.specs.Deliveries.{hears, told, unborn_event, without_invoke}
 use Rattle.sc_core.specs.FittingHosts.{FitsChart}
 use Rattle.sc_core.specs.Hosts.{bare_chart, chart_named, has_chart, is_chart_named, is_live, is_running}
-use Rattle.sc_core.proofs.TurnLemmas.{IsPast, turn-of, turn-past}
+use Rattle.sc_core.proofs.TurnLemmas.{IsPast}
 
 -- ---- a chart more
 

@@ -10,7 +10,7 @@ use Rattle.sc_core.specs.Holding.{IsHeld, host_of, rooms_of}
 use Rattle.sc_core.specs.HostStates.{ArePlanned, CanInstall, CanMake, HasRoomIn, HaveRoomIn, HaveRoomOfIn, IsPlanned, IsSound}
 use Rattle.sc_core.specs.Installing.{AreRoomy, CanApplyAll, HasRoom, HaveRoom, HaveRoomOf, HaveTargets, charts_after, installed, rooms_ahead}
 use Rattle.sc_core.specs.declared.change.Change.{Change}
-use Rattle.sc_core.specs.declared.change.Change.TheVariants.{Count, Advance, Install, Start, Bear, PutState, TakeFront, Queue, Tell, Flag, CutOff, DropInvoke, End, Delay, Undo, Fire, Lose}
+use Rattle.sc_core.specs.declared.change.Change.TheVariants.{Count, Advance, Install, Start, Bear, PutState, TakeFront, Queue, Tell, Flag, CutOff, DropInvoke, End, Delay, Undo, Lose}
 use Rattle.sc_core.proofs.RoomLemmas.{room_is}
 use Rattle.sc_core.proofs.SetLemmas.{map_long}
 use Rattle.sc_core.specs.declared.session.Session.{Session}
@@ -55,7 +55,6 @@ has_room n h rooms (DropInvoke place child) r = tt
 has_room n h rooms (End place) r = tt
 has_room n h rooms (Delay send) r = r
 has_room n h rooms (Undo session id) r = tt
-has_room n h rooms (Fire place id) r = subst (λ m. n ≤ m) (room_is (λ (s : Session). s.queued.spare) h.sessions.items place) r
 has_room n h rooms Lose r = tt
 
 have_room_of : {P : Type 0} (n : ℕ) (h : Body P) (rooms : List ℕ) (cs : List (Change P))
@@ -87,7 +86,6 @@ planned_after chart_of (DropInvoke place child ∷ cs) charts all are = planned_
 planned_after chart_of (End place ∷ cs) charts all are = planned_after chart_of cs charts all are
 planned_after chart_of (Delay send ∷ cs) charts all are = planned_after chart_of cs charts all are
 planned_after chart_of (Undo session id ∷ cs) charts all are = planned_after chart_of cs charts all are
-planned_after chart_of (Fire place id ∷ cs) charts all are = planned_after chart_of cs charts all are
 planned_after chart_of (Lose ∷ cs) charts all are = planned_after chart_of cs charts all are
 
 -- the body is held after the changes
@@ -117,7 +115,6 @@ room_of n h rooms (DropInvoke place child) r = tt
 room_of n h rooms (End place) r = tt
 room_of n h rooms (Delay send) r = r
 room_of n h rooms (Undo session id) r = tt
-room_of n h rooms (Fire place id) r = subst (λ m. n ≤ m) (sym (room_is (λ (s : Session). s.queued.spare) h.sessions.items place)) r
 room_of n h rooms Lose r = tt
 
 rooms_of_in : {P : Type 0} (n : ℕ) (h : Body P) (rooms : List ℕ) (cs : List (Change P)) → HaveRoomOf n h rooms cs

@@ -6,17 +6,16 @@ use Rattle.std.specs.Option.{option_map_or}
 use Rattle.sc_types.specs.declared.event.Event.{Event}
 use Rattle.sc_types.specs.declared.host.HostImage.{HostImage}
 use Rattle.sc_types.specs.declared.host.SessionImage.{SessionImage}
-use Rattle.sc_types.specs.declared.host.TimerImage.{TimerImage}
 use Rattle.sc_types.specs.declared.session.Phase.{Phase}
 use Rattle.sc_types.specs.declared.session.Phase.TheVariants as phase
 use Rattle.sc_core.specs.Bodies.{Agrees, Lowers, Makes, image, session_image}
-use Rattle.sc_core.specs.Changes.{at_session, clear_at, clear_in, fire_first, queue_at, with_invokeid}
+use Rattle.sc_core.specs.Changes.{at_session, clear_at, clear_in, queue_at}
 use Rattle.sc_core.specs.Deliveries.{queue}
 use Rattle.sc_core.specs.Hosts.{with_session}
 use Rattle.sc_core.specs.Installing.{CanApply, CanApplyAll, HasRoom, HaveRoom, HaveRoomOf, IsNewest, apply, charts_after, charts_with, installed, new_rooms, queue_rooms, room_at, rooms_ahead}
 use Rattle.sc_core.specs.declared.body.Body.{Body}
 use Rattle.sc_core.specs.declared.change.Change.{Change}
-use Rattle.sc_core.specs.declared.change.Change.TheVariants.{Count, Advance, Install, Start, Bear, PutState, TakeFront, Queue, Tell, Flag, CutOff, DropInvoke, End, Delay, Undo, Fire, Lose}
+use Rattle.sc_core.specs.declared.change.Change.TheVariants.{Count, Advance, Install, Start, Bear, PutState, TakeFront, Queue, Tell, Flag, CutOff, DropInvoke, End, Delay, Undo, Lose}
 use Rattle.sc_core.specs.declared.session.Session.{Session}
 use Rattle.sc_core.proofs.RoomLemmas.{room_first, room_is, room_second}
 use Rattle.sc_core.proofs.SetLemmas.{map_long}
@@ -51,7 +50,6 @@ room_left n h k rooms others (DropInvoke place child) l few r = tt
 room_left n h k rooms others (End place) l few r = tt
 room_left n h k rooms others (Delay send) l few r = omega (arith, l.timers, r)
 room_left n h k rooms others (Undo session id) l few r = tt
-room_left n h k rooms others (Fire place id) l few r = let at = l.queued place in omega (arith, at, r)
 room_left n h k rooms others Lose l few r = tt
 
 rooms_left : {P : Type 0} (n : ℕ) (h k : Body P) (rooms others : List ℕ) (cs : List (Change P)) → Lowers h k
@@ -85,7 +83,6 @@ room_one n h rooms (DropInvoke place child) can r = tt
 room_one n h rooms (End place) can r = tt
 room_one n h rooms (Delay send) can r = omega (arith, r)
 room_one n h rooms (Undo session id) can r = tt
-room_one n h rooms (Fire place id) can r = omega (arith, r)
 room_one n h rooms Lose can r = tt
 
 -- ---- the rooms ahead
@@ -107,11 +104,6 @@ queue_long g place e = by (slice_get g.sessions place)
         → length (option_map_or (λ (s : SessionImage). queue g place s e) o g).sessions ≡ length g.sessions
     by None = refl
     by (Some s) = length-set g.sessions place _
-
-fire_long : (g : HostImage) (place : ℕ) (id : Option (List ℕ)) (ts : List TimerImage)
-    → length (fire_first g place id ts).sessions ≡ length g.sessions
-fire_long g place id [] = refl
-fire_long g place id (t ∷ ts) = queue_long (record g { timers = ts }) place (with_invokeid t.event id)
 
 clear_long : (g : HostImage) (place : ℕ) → length (clear_at g place).sessions ≡ length g.sessions
 unfolding clear_at
@@ -150,7 +142,6 @@ apply_long (DropInvoke place child) g quiet = at_long g place _
 apply_long (End place) g quiet = clear_long g place
 apply_long (Delay send) g quiet = refl
 apply_long (Undo session id) g quiet = refl
-apply_long (Fire place id) g quiet = fire_long g place id g.timers
 apply_long Lose g quiet = refl
 
 same_ahead : {P : Type 0} (h k : Body P) (rooms : List ℕ) → length k.sessions.items ≡ length h.sessions.items → Lowers h k
@@ -260,7 +251,6 @@ rooms_lowered h k (DropInvoke place child) cs made newest = none_ahead h k (Drop
 rooms_lowered h k (End place) cs made newest = none_ahead h k (End place) cs tt made
 rooms_lowered h k (Delay send) cs made newest = none_ahead h k (Delay send) cs tt made
 rooms_lowered h k (Undo session id) cs made newest = none_ahead h k (Undo session id) cs tt made
-rooms_lowered h k (Fire place id) cs made newest = none_ahead h k (Fire place id) cs tt made
 rooms_lowered h k Lose cs made newest = none_ahead h k Lose cs tt made
 
 -- what the first change of those that are left needs

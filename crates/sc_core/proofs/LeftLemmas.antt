@@ -21,7 +21,7 @@ use Rattle.sc_core.specs.Hosts.{is_live, with_session}
 use Rattle.sc_core.specs.Installing.{CanApply, CanApplyAll, apply, installed}
 use Rattle.sc_core.specs.Parting.{is_cut, is_cut_in, left_if, new_left, old_left, put_left}
 use Rattle.sc_core.specs.declared.change.Change.{Change}
-use Rattle.sc_core.specs.declared.change.Change.TheVariants.{Advance, Bear, Count, CutOff, Delay, DropInvoke, End, Fire, Flag, Install, Lose, PutState, Queue, Start, TakeFront, Tell, Undo}
+use Rattle.sc_core.specs.declared.change.Change.TheVariants.{Advance, Bear, Count, CutOff, Delay, DropInvoke, End, Flag, Install, Lose, PutState, Queue, Start, TakeFront, Tell, Undo}
 use Rattle.sc_core.specs.declared.draft.Placed.{Placed}
 use Rattle.sc_core.specs.declared.session.Session.{Session}
 use Rattle.sc_core.proofs.PartLemmas.{placed_where}
@@ -200,7 +200,6 @@ links_on who g (PutState place state) cs of can = absurd of
 links_on who g (TakeFront place) cs of can = absurd of
 links_on who g (Flag place) cs of can = absurd of
 links_on who g (End place) cs of can = absurd of
-links_on who g (Fire place i) cs of can = absurd of
 links_on who g Lose cs of can = absurd of
 
 append_nil : {X : Type 0} (xs : List X) → xs ++ [] ≡ xs
@@ -237,7 +236,6 @@ born_own who (PutState place state ∷ cs) all = absurd all.0
 born_own who (TakeFront place ∷ cs) all = absurd all.0
 born_own who (Flag place ∷ cs) all = absurd all.0
 born_own who (End place ∷ cs) all = absurd all.0
-born_own who (Fire place i ∷ cs) all = absurd all.0
 born_own who (Lose ∷ cs) all = absurd all.0
 
 -- ---- who is left, by what is seen and linked

@@ -20,7 +20,7 @@ use Rattle.sc_expr.specs.Reading.{expr_of}
 use Rattle.sc_law.specs.LegalCharts.{legal_chart_of, legal_or_fault}
 use Rattle.sc_law.specs.Turn.{turn}
 use Rattle.sc_core.specs.Accepted.{after, is_accepted}
-use Rattle.sc_core.specs.Commands.{Answer, accepted, answer, cancel, fresh_session, install_read, is_too_long, post_found, posted_event, put_in, refused, step, weight_of}
+use Rattle.sc_core.specs.Commands.{Answer, answer, cancel, fresh_session, install_read, is_too_long, post_found, posted_event, put_in, refused, step, weight_of}
 use Rattle.sc_core.specs.Deliveries.{deliver_all}
 use Rattle.sc_core.specs.Endings.{end_at}
 use Rattle.sc_core.specs.Histories.{replay}

@@ -11,7 +11,7 @@ use Rattle.sc_core.specs.HostStates.{ArePlanned}
 use Rattle.sc_core.specs.Installing.{CanApply, CanApplyAll, HasTarget, HaveTargets, IsChildAt, IsRoomy, apply, installed, new_rooms, room_at}
 use Rattle.sc_core.specs.Newborns.{AreAlike, HasNewRoom, IsAlike, IsRoomier, has_past, is_past, born, same, started}
 use Rattle.sc_core.specs.declared.change.Change.{Change}
-use Rattle.sc_core.specs.declared.change.Change.TheVariants.{Count, Advance, Install, Start, Bear, PutState, TakeFront, Queue, Tell, Flag, CutOff, DropInvoke, End, Delay, Undo, Fire, Lose}
+use Rattle.sc_core.specs.declared.change.Change.TheVariants.{Count, Advance, Install, Start, Bear, PutState, TakeFront, Queue, Tell, Flag, CutOff, DropInvoke, End, Delay, Undo, Lose}
 use Rattle.sc_core.specs.declared.session.Session.{Session}
 use Rattle.sc_core.proofs.InstallLemmas.{apply_long}
 
@@ -104,7 +104,6 @@ planned_one {P = P} f c d cs ds (same is) rest are =
     by (End place) a = rest a
     by (Delay send) a = rest a
     by (Undo session id) a = rest a
-    by (Fire place id) a = rest a
     by Lose a = rest a
 planned_one f c d cs ds (born invoker name s w one two r) rest are =
     subst (λ x. ArePlanned f (x ∷ ds)) (sym two) (rest (subst (λ x. ArePlanned f (x ∷ cs)) one are))
@@ -144,7 +143,6 @@ long_on {P = P} (DropInvoke place child) cs g = ap (λ n. n + length (new_rooms 
 long_on {P = P} (End place) cs g = ap (λ n. n + length (new_rooms cs)) (apply_long {P = P} (End place) g tt)
 long_on {P = P} (Delay send) cs g = ap (λ n. n + length (new_rooms cs)) (apply_long {P = P} (Delay send) g tt)
 long_on {P = P} (Undo session id) cs g = ap (λ n. n + length (new_rooms cs)) (apply_long {P = P} (Undo session id) g tt)
-long_on {P = P} (Fire place id) cs g = ap (λ n. n + length (new_rooms cs)) (apply_long {P = P} (Fire place id) g tt)
 long_on {P = P} Lose cs g = ap (λ n. n + length (new_rooms cs)) (apply_long {P = P} Lose g tt)
 
 either : (a b : Bool) → a ≡ true → (a || b) ≡ true
@@ -186,7 +184,6 @@ roomy_one {P = P} first count g rooms c d cs (same is) can long all =
     by (End place) k l a = tt
     by (Delay send) k l a = tt
     by (Undo session id) k l a = tt
-    by (Fire place id) k l a = tt
     by Lose k l a = tt
 roomy_one first count g rooms c d cs (born invoker name s w one two r) can long all =
     subst (IsRoomy first count rooms) (sym two) tt
@@ -228,7 +225,6 @@ alike_long {P = P} (c ∷ cs) (d ∷ ds) alike = one c d alike.0 (alike_long cs 
     keeps (End place) rest = rest
     keeps (Delay send) rest = rest
     keeps (Undo session id) rest = rest
-    keeps (Fire place id) rest = rest
     keeps Lose rest = rest
 
     one : (x y : Change P) → IsAlike x y → length (new_rooms cs) ≡ length (new_rooms ds)
@@ -275,7 +271,6 @@ rooms_push count [] (DropInvoke place child) all room = tt
 rooms_push count [] (End place) all room = tt
 rooms_push count [] (Delay send) all room = tt
 rooms_push count [] (Undo session id) all room = tt
-rooms_push count [] (Fire place id) all room = tt
 rooms_push count [] Lose all room = tt
 rooms_push count (Count ∷ cs) c all room = rooms_push count cs c all room
 rooms_push count (Advance clock ∷ cs) c all room = rooms_push count cs c all room
@@ -292,7 +287,6 @@ rooms_push count (DropInvoke place child ∷ cs) c all room = rooms_push count c
 rooms_push count (End place ∷ cs) c all room = rooms_push count cs c all room
 rooms_push count (Delay send ∷ cs) c all room = rooms_push count cs c all room
 rooms_push count (Undo session id ∷ cs) c all room = rooms_push count cs c all room
-rooms_push count (Fire place id ∷ cs) c all room = rooms_push count cs c all room
 rooms_push count (Lose ∷ cs) c all room = rooms_push count cs c all room
 
 pub goes_start : {P : Type 0} (gets : Bool) (count : ℕ) (whole : List (Change P)) → GoesOn gets count whole whole []

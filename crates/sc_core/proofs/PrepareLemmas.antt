@@ -10,7 +10,7 @@ use Rattle.sc_core.specs.Hosts.{chart_place, has_chart, is_chart_named}
 use Rattle.sc_core.specs.Installing.{AreRoomy, CanApply, CanApplyAll, HasTarget, HaveTargets, IsRoomy, apply, installed, new_rooms}
 use Rattle.sc_core.specs.Preparing.{Prepares}
 use Rattle.sc_core.specs.declared.change.Change.{Change}
-use Rattle.sc_core.specs.declared.change.Change.TheVariants.{Count, Advance, Install, Start, Bear, PutState, TakeFront, Queue, Tell, Flag, CutOff, DropInvoke, End, Delay, Undo, Fire, Lose}
+use Rattle.sc_core.specs.declared.change.Change.TheVariants.{Count, Advance, Install, Start, Bear, PutState, TakeFront, Queue, Tell, Flag, CutOff, DropInvoke, End, Delay, Undo, Lose}
 use Rattle.sc_core.specs.declared.prepared.Prepared.{Prepared}
 
 same_less : (m n : ℕ) → nat_lt (1 + m) (suc n) ≡ nat_lt m n
@@ -51,7 +51,6 @@ roomy_of g count rooms (DropInvoke place child) can = tt
 roomy_of g count rooms (End place) can = tt
 roomy_of g count rooms (Delay send) can = tt
 roomy_of g count rooms (Undo session id) can = tt
-roomy_of g count rooms (Fire place id) can = tt
 roomy_of g count rooms Lose can = tt
 
 -- one change, and the command is counted

@@ -16,7 +16,7 @@ use Rattle.sc_core.specs.Bodies.{Agrees, Keeps, cued, image, inviter, queue_room
 use Rattle.sc_core.specs.Installing.{AreRoomy, HasRoom, HasTarget, HaveRoom, HaveRoomOf, HaveTargets, IsMadeFor, IsRoomy, new_rooms, queue_rooms, room_at, rooms_ahead}
 use Rattle.sc_core.specs.declared.body.Body.{Body}
 use Rattle.sc_core.specs.declared.change.Change.{Change}
-use Rattle.sc_core.specs.declared.change.Change.TheVariants.{Count, Advance, Install, Start, Bear, PutState, TakeFront, Queue, Tell, Flag, CutOff, DropInvoke, End, Delay, Undo, Fire, Lose}
+use Rattle.sc_core.specs.declared.change.Change.TheVariants.{Count, Advance, Install, Start, Bear, PutState, TakeFront, Queue, Tell, Flag, CutOff, DropInvoke, End, Delay, Undo, Lose}
 use Rattle.sc_core.specs.declared.session.Session.{Session}
 
 more_set : (f : Session → ℕ) (items : List Session) (place : ℕ) (s w : Session) → slice_get items place ≡ Some s
@@ -117,7 +117,6 @@ made_kept n h k (DropInvoke place child) l r = tt
 made_kept n h k (End place) l r = tt
 made_kept n h k (Delay send) l r = omega (arith, l.timers, r)
 made_kept n h k (Undo session id) l r = tt
-made_kept n h k (Fire place id) l r = let at = l.queued place in omega (arith, at, r)
 made_kept n h k Lose l r = tt
 
 abbrev AreMadeFor : {P : Type 0} → ℕ → Body P → List (Change P) → Type 0
@@ -235,7 +234,6 @@ one_room n count h rooms (DropInvoke place child) less made roomy = tt
 one_room n count h rooms (End place) less made roomy = tt
 one_room n count h rooms (Delay send) less made roomy = made
 one_room n count h rooms (Undo session id) less made roomy = tt
-one_room n count h rooms (Fire place id) less made roomy = made
 one_room n count h rooms Lose less made roomy = tt
 
 rooms_of_all : {P : Type 0} (n count : ℕ) (h : Body P) (rooms : List ℕ) (cs : List (Change P)) → n ≤ count

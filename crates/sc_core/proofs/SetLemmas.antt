@@ -9,12 +9,11 @@ use Rattle.std.proofs.lemmas.Bool.Decides.{nat_tests}
 use Rattle.sc_rooms.specs.Rooms.{AreDistinct, NamedOf, PlacesOf, RoomyOf}
 use Rattle.sc_timers.specs.Timers.{TimersOf}
 use Rattle.sc_types.specs.declared.host.HostImage.{HostImage}
-use Rattle.sc_types.specs.declared.event.Event.{Event}
 use Rattle.sc_types.specs.declared.host.TimerImage.{TimerImage}
 use Rattle.sc_types.specs.declared.host.InvokerImage.{InvokerImage}
 use Rattle.sc_types.specs.declared.host.SessionImage.{SessionImage}
-use Rattle.sc_core.specs.Bodies.{Agrees, IsFamily, Lowers, Makes, children_room, cued, failure_room, image, inviter, marked, queue_room, session_image}
-use Rattle.sc_core.specs.Changes.{IsFirstDue, clear_at, clear_in, fire_at, fire_first, queue_at, with_invokeid, with_started}
+use Rattle.sc_core.specs.Bodies.{Agrees, IsFamily, Makes, children_room, cued, failure_room, image, inviter, marked, queue_room, session_image}
+use Rattle.sc_core.specs.Changes.{IsFirstDue, clear_at, clear_in, with_started}
 use Rattle.sc_core.specs.Cues.{is_ready}
 use Rattle.sc_core.specs.Endings.{cleared}
 use Rattle.sc_rooms.specs.Rooms.{place_of}
@@ -408,28 +407,6 @@ takes (Some t) old new now first none some spare =
     record {
       left = ap (λ ss. record { sends = ss; spare = new.spare }) rest ∙ ap (λ n. record old { sends = drop 1 old.sends; spare = n }) spare;
       send = some.0 ∙ ap (λ ss. t ∷ ss) rest;
-    }
-
-pub fired : {P : Type 0} (h m k : Body P) (place : ℕ) (id : Option (List ℕ)) (t : TimerImage) (e : Event)
-    → m ≡ record h { timers = record h.timers { sends = drop 1 h.timers.sends } }
-    → h.timers.sends ≡ t ∷ drop 1 h.timers.sends → e ≡ with_invokeid t.event id
-    → Makes (queue_at (image m) place e) m k → Makes (fire_at (image h) place id) h k
-fired {P = P} h m k place id t e left sends is made =
-    let room = subst (λ (b : Body P). Lowers b k) left made.room in
-    record {
-      image = made.image ∙ ap (λ (b : Body P). queue_at (image b) place e) left
-          ∙ ap (λ x. queue_at (record (image h) { timers = drop 1 h.timers.sends }) place x) is
-          ∙ sym (ap (fire_first (image h) place id) sends);
-      agrees = made.agrees;
-      room = record {
-        charts = room.charts;
-        sessions = room.sessions;
-        timers = room.timers;
-        ready = room.ready;
-        queued = room.queued;
-        failures = room.failures;
-        children = room.children;
-      };
     }
 
 -- ---- names

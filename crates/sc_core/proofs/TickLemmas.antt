@@ -18,7 +18,7 @@ use Rattle.sc_types.specs.declared.host.SessionImage.{SessionImage}
 use Rattle.sc_types.specs.declared.host.TimerImage.{TimerImage}
 use Rattle.sc_core.specs.Aims.{Outline, aim, carried, invokeid_for, outline, outlines, received}
 use Rattle.sc_core.specs.Bodies.{image, session_image}
-use Rattle.sc_core.specs.Changes.{IsFirstDue, fire_first, lose, put_state, tell, with_invokeid}
+use Rattle.sc_core.specs.Changes.{IsFirstDue, lose, numbered, put_state, queue_at, tell, with_invokeid}
 use Rattle.sc_core.specs.Commands.{advance}
 use Rattle.sc_core.specs.Deliveries.{Delivered, fire, fire_all, hears, is_cut_from, is_due, left_as, queue, receiver_name, send_found, send_named, send_now, unreachable, while_live}
 use Rattle.sc_core.specs.Hosts.{is_running, session_named, session_place, with_session}
@@ -50,7 +50,7 @@ pub record IsFired {P : Type 0} (h : HostImage) (f : Fired P) (d : Delivered) : 
   pub events : f.events ≡ d.host.events
   pub can : IsFirstDue h.clock h.timers → h.events + 1 < 2 ^ 128 → CanApplyAll h f.changes
   pub targets : HaveTargets (length h.sessions) f.changes
-  pub roomy : (n count : ℕ) (rooms : List ℕ) → AllByRecursion (IsRoomy {P = P} n count rooms) f.changes
+  pub roomy : (count : ℕ) (rooms : List ℕ) → AllByRecursion (IsRoomy {P = P} (length h.sessions) count rooms) f.changes
   pub plain : InstallNone f.changes
 
 -- without the first pending send
@@ -73,7 +73,7 @@ lost_fired h t ts what first = record {
   events = refl;
   can = λ due less. (due, tt);
   targets = (tt, tt);
-  roomy = λ n count rooms. (tt, tt);
+  roomy = λ count rooms. (tt, tt);
   plain = λ chart_of. tt;
 }
 
@@ -112,7 +112,7 @@ failed_fired {P = P} h t ts place s first there = by (is_running s.state.phase)
       events = refl;
       can = λ due less. (due, tt);
       targets = (tt, tt);
-      roomy = λ n count rooms. (tt, tt);
+      roomy = λ count rooms. (tt, tt);
       plain = λ chart_of. tt;
     }
     by true = record {
@@ -122,27 +122,28 @@ failed_fired {P = P} h t ts place s first there = by (is_running s.state.phase)
       events = refl;
       can = λ due less. (due, (within, tt));
       targets = (tt, (within, tt));
-      roomy = λ n count rooms. (tt, (tt, tt));
+      roomy = λ count rooms. (tt, (tt, tt));
       plain = λ chart_of. tt;
     }
 
 reached_fired : {P : Type 0} (h : HostImage) (t : TimerImage) (ts : List TimerImage) (s : SessionImage) (to : ℕ)
     (r : SessionImage) → h.timers ≡ t ∷ ts → slice_get h.sessions to ≡ Some r
-    → IsFired {P = P} h (fired_at h.events to s.invoker r.state.session) (received (with_left h ts) to s t.event r)
+    → IsFired {P = P} h (fired_at h.events to s.invoker t.event r.state.session) (received (with_left h ts) to s t.event r)
 reached_fired h t ts s to r first there =
     let name = r.state.session in
     let id = invokeid_for s.invoker name in
     let left = with_left h ts in
+    let e = numbered (h.events + 1) (with_invokeid t.event id) in
     let within = slice_get_within h.sessions to r there in
     record {
-      host = ap (fire_first h to id) first
-          ∙ ap (λ o. option_map_or (λ (x : SessionImage). queue left to x (with_invokeid t.event id)) o left) there
+      host = ap (λ (g : HostImage). queue_at g to e) (lost_is h t ts first)
+          ∙ ap (λ o. option_map_or (λ (x : SessionImage). queue left to x e) o left) there
           ∙ ap (λ e. queue left to r e) (arrives s name t.event);
       what = refl;
       events = refl;
-      can = λ due less. ((within, less, due), tt);
-      targets = (within, tt);
-      roomy = λ n count rooms. (tt, tt);
+      can = λ due less. (due, ((within, less, refl), tt));
+      targets = (tt, (tt, tt));
+      roomy = λ count rooms. (tt, ((λ past. absurd (omega (arith, within, past))), tt));
       plain = λ chart_of. tt;
     }
 
@@ -156,7 +157,7 @@ aimed_fired {P = P} h t ts place s (Reaches to) first there = by (slice_get h.se
   where
     by : (o : Option SessionImage) → slice_get h.sessions to ≡ o
         → IsFired {P = P} h
-        (fired_to h.events to s.invoker o)
+        (fired_to h.events to s.invoker t.event o)
         (option_map_or (received (with_left h ts) to s t.event) o (left_as (with_left h ts) Nothing))
     by None at = lost_fired h t ts Nothing first
     by (Some r) at = reached_fired h t ts s to r first at
@@ -220,12 +221,12 @@ found_outlined g name =
         ap (λ o. option_map {U = ℕ × Outline} (λ (x : Outline). (p, x)) o) (slice_get-map outline g.sessions p)
         ∙ at p (slice_get g.sessions p)
 
-abbrev outlined_to : {P : Type 0} → ℕ → ℕ → Option InvokerImage → Option Outline → Fired P
-outlined_to n place invoker None = fired_lost n Nothing
-outlined_to n place invoker (Some receiver) = fired_at n place invoker receiver.name
+abbrev outlined_to : {P : Type 0} → ℕ → ℕ → Option InvokerImage → Event → Option Outline → Fired P
+outlined_to n place invoker e None = fired_lost n Nothing
+outlined_to n place invoker e (Some receiver) = fired_at n place invoker e receiver.name
 
 abbrev outlined_by : {P : Type 0} → List Outline → ℕ → TimerImage → ℕ → Outline → Aim → Fired P
-outlined_by os n t place o (Reaches to) = outlined_to n to o.invoker (slice_get os to)
+outlined_by os n t place o (Reaches to) = outlined_to n to o.invoker t.event (slice_get os to)
 outlined_by os n t place o Fails = fired_failed n place o.phase t.event.sendid
 outlined_by os n t place o Drops = fired_lost n Dropped
 
@@ -238,10 +239,10 @@ by_outlined : {P : Type 0} (g : HostImage) (n : ℕ) (t : TimerImage) (place : �
 by_outlined g n t place s Fails = refl
 by_outlined g n t place s Drops = refl
 by_outlined {P = P} g n t place s (Reaches to) =
-    by (slice_get g.sessions to) ∙ sym (ap (outlined_to {P = P} n to s.invoker) (slice_get-map outline g.sessions to))
+    by (slice_get g.sessions to) ∙ sym (ap (outlined_to {P = P} n to s.invoker t.event) (slice_get-map outline g.sessions to))
   where
     by : (o : Option SessionImage)
-        → fired_to {P = P} n to s.invoker o ≡ outlined_to n to s.invoker (option_map outline o)
+        → fired_to {P = P} n to s.invoker t.event o ≡ outlined_to n to s.invoker t.event (option_map outline o)
     by None = refl
     by (Some r) = refl
 
@@ -380,18 +381,18 @@ pub fired_reaches : {P : Type 0} (h : Body P) (n : ℕ) (t : TimerImage) (place 
     → slice_get h.sessions.items place ≡ Some s
     → a ≡ aim (put_state (image h) place s.state) (session_image s) t.to → a ≡ Reaches to
     → option_map (λ (x : Session). x.state.session) (slice_get h.sessions.items to) ≡ Some name
-    → fired {P = P} (image h) n t ≡ fired_at n to s.invoker name
+    → fired {P = P} (image h) n t ≡ fired_at n to s.invoker t.event name
 fired_reaches {P = P} h n t place s a to name found at aims is named =
     fired_aimed h n t place s a found at aims ∙ ap (fired_by {P = P} (image h) n t place (session_image s)) is
-    ∙ ap (fired_to {P = P} n to s.invoker) (slice_get-map session_image h.sessions.items to)
+    ∙ ap (fired_to {P = P} n to s.invoker t.event) (slice_get-map session_image h.sessions.items to)
     ∙ by (slice_get h.sessions.items to) named
   where
     by : (o : Option Session) → option_map (λ (x : Session). x.state.session) o ≡ Some name
-        → fired_to {P = P} n to s.invoker (option_map session_image o) ≡ fired_at n to s.invoker name
+        → fired_to {P = P} n to s.invoker t.event (option_map session_image o) ≡ fired_at n to s.invoker t.event name
     by None is = absurd cc
     by (Some r) is =
         let same : r.state.session ≡ name = cc in
-        ap (fired_at {P = P} n to s.invoker) same
+        ap (fired_at {P = P} n to s.invoker t.event) same
 
 -- a send that reaches nobody
 pub fired_fails : {P : Type 0} (h : Body P) (n : ℕ) (t : TimerImage) (place : ℕ) (s : Session) (a : Aim)
@@ -438,7 +439,7 @@ pub record Ticks {P : Type 0} (g : HostImage) (now : ℕ) (d : Draft P) : Type 0
   pub left : undue now (drop (length d.sent) g.timers) ≡ (ticked g now).timers
   pub can : CanApplyAll g d.changes
   pub targets : HaveTargets (length g.sessions) d.changes
-  pub roomy : (n count : ℕ) (rooms : List ℕ) → AllByRecursion (IsRoomy {P = P} n count rooms) d.changes
+  pub roomy : (count : ℕ) (rooms : List ℕ) → AllByRecursion (IsRoomy {P = P} (length g.sessions) count rooms) d.changes
   pub plain : InstallNone d.changes
 
 -- the next send that is due
@@ -491,8 +492,9 @@ tick_more {P = P} g now d e t there due less added so =
       targets = subst (HaveTargets (length g.sessions)) (sym added.changes)
           (targets_more d.changes f.changes (length g.sessions) so.targets
           (subst (λ n. HaveTargets n f.changes) long made.targets));
-      roomy = λ n count rooms. subst (AllByRecursion (IsRoomy {P = P} n count rooms)) (sym added.changes)
-          (all_both (IsRoomy {P = P} n count rooms) d.changes f.changes (so.roomy n count rooms) (made.roomy n count rooms));
+      roomy = λ count rooms. subst (AllByRecursion (IsRoomy {P = P} (length g.sessions) count rooms)) (sym added.changes)
+          (all_both (IsRoomy {P = P} (length g.sessions) count rooms) d.changes f.changes (so.roomy count rooms)
+          (subst (λ n. AllByRecursion (IsRoomy {P = P} n count rooms) f.changes) long (made.roomy count rooms)));
       plain = λ chart_of. subst (ArePlanned chart_of) (sym added.changes)
           (planned_more chart_of d.changes f.changes (so.plain chart_of) (made.plain chart_of));
     }
@@ -571,7 +573,7 @@ tick_done {P = P} g now d p less so none changes replied logs sent =
           (targets_more d.changes (Count ∷ []) (length g.sessions) so.targets (tt, tt));
       roomy = subst (AreRoomy (length g.sessions)) (sym changes)
           (all_both (IsRoomy {P = P} (length g.sessions) (length (d.changes ++ Count ∷ [])) (new_rooms (d.changes ++ Count ∷ [])))
-          d.changes (Count ∷ []) (so.roomy _ _ _) (tt, tt));
+          d.changes (Count ∷ []) (so.roomy _ _) (tt, tt));
     }
   where
     all : drafted g d ≡ (fire_all (ticked g now) (due_in g now)).host

@@ -28,7 +28,7 @@ use Rattle.sc_core.specs.Parting.{DraftsEnd}
 use Rattle.sc_core.specs.Preparing.{InstallNone, Prepares}
 use Rattle.sc_core.specs.Stepping.{put_changes}
 use Rattle.sc_core.specs.declared.change.Change.{Change}
-use Rattle.sc_core.specs.declared.change.Change.TheVariants.{Advance, Bear, Count, CutOff, Delay, DropInvoke, End, Fire, Flag, Install, Lose, PutState, Queue, Start, TakeFront, Tell, Undo}
+use Rattle.sc_core.specs.declared.change.Change.TheVariants.{Advance, Bear, Count, CutOff, Delay, DropInvoke, End, Flag, Install, Lose, PutState, Queue, Start, TakeFront, Tell, Undo}
 use Rattle.sc_core.specs.declared.draft.Draft.{Draft}
 use Rattle.sc_core.specs.declared.prepared.Prepared.{Prepared}
 use Rattle.sc_core.proofs.AimLemmas.{set_here}
@@ -141,7 +141,6 @@ none_of_step chart_of who (PutState place state ∷ cs) more all none = absurd a
 none_of_step chart_of who (TakeFront place ∷ cs) more all none = absurd all.0
 none_of_step chart_of who (Flag place ∷ cs) more all none = absurd all.0
 none_of_step chart_of who (End place ∷ cs) more all none = absurd all.0
-none_of_step chart_of who (Fire place i ∷ cs) more all none = absurd all.0
 none_of_step chart_of who (Lose ∷ cs) more all none = absurd all.0
 
 -- ---- the whole step
@@ -204,7 +203,6 @@ count_rooms (DropInvoke place child ∷ cs) = count_rooms cs
 count_rooms (End place ∷ cs) = count_rooms cs
 count_rooms (Delay send ∷ cs) = count_rooms cs
 count_rooms (Undo session id ∷ cs) = count_rooms cs
-count_rooms (Fire place id ∷ cs) = count_rooms cs
 count_rooms (Lose ∷ cs) = count_rooms cs
 
 less_roomy : {P : Type 0} (n count : ℕ) (rooms others : List ℕ) (c : Change P) (many : ℕ) → n ≤ count → others ≡ rooms
@@ -224,7 +222,6 @@ less_roomy n count rooms others (DropInvoke place child) many less same r = tt
 less_roomy n count rooms others (End place) many less same r = tt
 less_roomy n count rooms others (Delay send) many less same r = tt
 less_roomy n count rooms others (Undo session id) many less same r = tt
-less_roomy n count rooms others (Fire place id) many less same r = tt
 less_roomy n count rooms others Lose many less same r = tt
 
 less_all : {P : Type 0} (n count many : ℕ) (rooms others : List ℕ) (cs : List (Change P)) → n ≤ count → others ≡ rooms

@@ -63,18 +63,14 @@ with_send_pending g t = record g { delayed = t.number; timers = with_send t g.ti
 abbrev pub without_sends : HostImage → List ℕ → List ℕ → HostImage
 without_sends g session id = record g { timers = filter (λ t. not (is_send session id t)) g.timers }
 
+-- an event under a number
+abbrev pub numbered : ℕ → Event → Event
+numbered n e = record e { number = n }
+
 -- the event of a send that came due, with the id of the receiver's invocation of the sender, where there is one
 abbrev pub with_invokeid : Event → Option (List ℕ) → Event
 with_invokeid e None = e
 with_invokeid e (Some id) = record e { invokeid = id }
-
--- the first pending send leaves, and its event joins an external queue
-abbrev pub fire_first : HostImage → ℕ → Option (List ℕ) → List TimerImage → HostImage
-fire_first g place id [] = g
-fire_first g place id (t ∷ ts) = queue_at (record g { timers = ts }) place (with_invokeid t.event id)
-
-abbrev pub fire_at : HostImage → ℕ → Option (List ℕ) → HostImage
-fire_at g place id = fire_first g place id g.timers
 
 -- the first pending send leaves
 abbrev pub lose : HostImage → HostImage

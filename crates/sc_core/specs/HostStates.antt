@@ -10,7 +10,7 @@ use Rattle.sc_core.specs.FittingHosts.{FitsChart}
 use Rattle.sc_core.specs.Installing.{AreRoomy, CanApplyAll, HaveTargets, installed, new_rooms, room_at}
 use Rattle.sc_core.specs.declared.body.InstalledChart.{InstalledChart}
 use Rattle.sc_core.specs.declared.change.Change.{Change}
-use Rattle.sc_core.specs.declared.change.Change.TheVariants.{Install, Start, Bear, Queue, Tell, Delay, Fire}
+use Rattle.sc_core.specs.declared.change.Change.TheVariants.{Install, Start, Bear, Queue, Tell, Delay}
 
 -- for how much more there is room; in the queues, and for children, by the sessions' places
 pub record Rooms : Type 0 where
@@ -53,7 +53,6 @@ HasRoomIn n r rooms (Bear invoker name session) = (n ≤ r.sessions) × (n ≤ r
 HasRoomIn n r rooms (Queue place e) = n ≤ room_at rooms place
 HasRoomIn n r rooms (Tell place e) = n ≤ room_at r.failures place
 HasRoomIn n r rooms (Delay send) = n ≤ r.timers
-HasRoomIn n r rooms (Fire place id) = n ≤ room_at r.queued place
 HasRoomIn n r rooms c = Unit {0}
 
 abbrev pub HaveRoomOfIn : {P : Type 0} → ℕ → Rooms → List ℕ → List (Change P) → Type 0

@@ -6,12 +6,12 @@ use Rattle.sc_types.specs.declared.host.HostImage.{HostImage}
 use Rattle.sc_types.specs.declared.host.SessionImage.{SessionImage}
 use Rattle.sc_types.specs.declared.host.TimerImage.{TimerImage}
 use Rattle.sc_core.specs.Bodies.{children_room, failure_room, inviter, queue_room}
-use Rattle.sc_core.specs.Changes.{IsFirstDue, clear_at, cut_off_at, drop_invoke, fire_at, flag, lose, put_state, queue_at, take_front, tell, with_chart, with_send_pending, with_started, without_sends}
+use Rattle.sc_core.specs.Changes.{IsFirstDue, clear_at, cut_off_at, drop_invoke, flag, lose, put_state, queue_at, take_front, tell, with_chart, with_send_pending, with_started, without_sends}
 use Rattle.sc_core.specs.Hosts.{chart_place, session_place}
 use Rattle.sc_core.specs.declared.body.Body.{Body}
 use Rattle.sc_core.specs.declared.body.InstalledChart.{InstalledChart}
 use Rattle.sc_core.specs.declared.change.Change.{Change}
-use Rattle.sc_core.specs.declared.change.Change.TheVariants.{Count, Advance, Install, Start, Bear, PutState, TakeFront, Queue, Tell, Flag, CutOff, DropInvoke, End, Delay, Undo, Fire, Lose}
+use Rattle.sc_core.specs.declared.change.Change.TheVariants.{Count, Advance, Install, Start, Bear, PutState, TakeFront, Queue, Tell, Flag, CutOff, DropInvoke, End, Delay, Undo, Lose}
 use Rattle.sc_core.specs.declared.session.Session.{Session}
 
 abbrev pub apply : {P : Type 0} → Change P → HostImage → HostImage
@@ -30,7 +30,6 @@ apply (DropInvoke place child) g = drop_invoke g place child
 apply (End place) g = clear_at g place
 apply (Delay send) g = with_send_pending g send
 apply (Undo session id) g = without_sends g session id
-apply (Fire place id) g = fire_at g place id
 apply Lose g = lose g
 
 -- each change is made of the host machine that the ones before it leave
@@ -58,7 +57,7 @@ CanApply g (Bear invoker name session) = (session.state.session ≡ name) × (se
 CanApply g (PutState place state) = IsPlace g place
     × (option_map (λ (s : SessionImage). s.state.session) (slice_get g.sessions place) ≡ Some state.session)
 CanApply g (TakeFront place) = IsPlace g place
-CanApply g (Queue place e) = IsPlace g place × (g.events + 1 < 2 ^ 128)
+CanApply g (Queue place e) = IsPlace g place × (g.events + 1 < 2 ^ 128) × (e.number ≡ g.events + 1)
 CanApply g (Tell place e) = IsPlace g place
 CanApply g (Flag place) = IsPlace g place
 CanApply g (CutOff place) = IsPlace g place
@@ -66,7 +65,6 @@ CanApply g (DropInvoke place child) = IsPlace g place
 CanApply g (End place) = IsPlace g place
 CanApply g (Delay send) = All (λ (t : TimerImage). t.number < send.number) g.timers
 CanApply g (Undo session id) = Unit {0}
-CanApply g (Fire place id) = IsPlace g place × (g.events + 1 < 2 ^ 128) × IsFirstDue g.clock g.timers
 CanApply g Lose = IsFirstDue g.clock g.timers
 
 abbrev pub CanApplyAll : {P : Type 0} → HostImage → List (Change P) → Type 0
@@ -105,7 +103,6 @@ HasRoom n h rooms (Bear invoker name session) = (n ≤ h.sessions.spare) × (n �
 HasRoom n h rooms (Queue place e) = n ≤ room_at rooms place
 HasRoom n h rooms (Tell place e) = n ≤ failure_room h place
 HasRoom n h rooms (Delay send) = n ≤ h.timers.spare
-HasRoom n h rooms (Fire place id) = n ≤ queue_room h place
 HasRoom n h rooms c = Unit {0}
 
 abbrev pub HaveRoomOf : {P : Type 0} → ℕ → Body P → List ℕ → List (Change P) → Type 0
@@ -124,7 +121,6 @@ IsMadeFor n h c = HasRoom n h [] c
 abbrev pub HasTarget : {P : Type 0} → ℕ → Change P → Type 0
 HasTarget sessions (Bear invoker name session) = invoker < sessions
 HasTarget sessions (Tell place e) = place < sessions
-HasTarget sessions (Fire place id) = place < sessions
 HasTarget sessions c = Unit {0}
 
 abbrev pub HaveTargets : {P : Type 0} → ℕ → List (Change P) → Type 0

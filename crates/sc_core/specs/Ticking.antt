@@ -12,11 +12,12 @@ use Rattle.sc_types.specs.declared.host.TimerImage.{TimerImage}
 use Rattle.sc_types.specs.declared.session.Phase.{Phase}
 use Rattle.sc_law.specs.Runs.{platform_event}
 use Rattle.sc_core.specs.Aims.{aim, invokeid_for}
+use Rattle.sc_core.specs.Changes.{numbered, with_invokeid}
 use Rattle.sc_core.specs.Hosts.{is_running, session_named}
 use Rattle.sc_core.specs.declared.aims.Aim.{Aim}
 use Rattle.sc_core.specs.declared.aims.Aim.TheVariants.{Reaches, Fails, Drops}
 use Rattle.sc_core.specs.declared.change.Change.{Change}
-use Rattle.sc_core.specs.declared.change.Change.TheVariants.{Fire, Lose, Tell}
+use Rattle.sc_core.specs.declared.change.Change.TheVariants.{Lose, Queue, Tell}
 use Rattle.sc_core.specs.declared.ticks.Draft.{Draft}
 
 -- the changes that a send makes, what becomes of it, and the number of the last event after it
@@ -41,21 +42,21 @@ fired_failed n place phase sendid = record {
   events = n;
 }
 
--- it joins the external queue of the session at a place, which has this name
-abbrev pub fired_at : {P : Type 0} → ℕ → ℕ → Option InvokerImage → List ℕ → Fired P
-fired_at n place invoker name = record {
-  changes = Fire place (invokeid_for invoker name) ∷ [];
+-- its event joins the external queue of the session at a place, which has this name
+abbrev pub fired_at : {P : Type 0} → ℕ → ℕ → Option InvokerImage → Event → List ℕ → Fired P
+fired_at n place invoker e name = record {
+  changes = Lose ∷ Queue place (numbered (n + 1) (with_invokeid e (invokeid_for invoker name))) ∷ [];
   what = Queued (n + 1) name;
   events = n + 1;
 }
 
-abbrev pub fired_to : {P : Type 0} → ℕ → ℕ → Option InvokerImage → Option SessionImage → Fired P
-fired_to n place invoker None = fired_lost n Nothing
-fired_to n place invoker (Some receiver) = fired_at n place invoker receiver.state.session
+abbrev pub fired_to : {P : Type 0} → ℕ → ℕ → Option InvokerImage → Event → Option SessionImage → Fired P
+fired_to n place invoker e None = fired_lost n Nothing
+fired_to n place invoker e (Some receiver) = fired_at n place invoker e receiver.state.session
 
 -- the sender is this session, which stands at a place
 abbrev pub fired_by : {P : Type 0} → HostImage → ℕ → TimerImage → ℕ → SessionImage → Aim → Fired P
-fired_by g n t place s (Reaches to) = fired_to n to s.invoker (slice_get g.sessions to)
+fired_by g n t place s (Reaches to) = fired_to n to s.invoker t.event (slice_get g.sessions to)
 fired_by g n t place s Fails = fired_failed n place s.state.phase t.event.sendid
 fired_by g n t place s Drops = fired_lost n Dropped
 

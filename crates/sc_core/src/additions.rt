@@ -1,7 +1,7 @@
 ghost use Rattle.std.specs.Prelude.{◌≡◌, ◌+◌, ◌^◌, ◌<◌, ◌≤◌, All, List, [], ◌∷◌, ◌++◌, None, Some, MatchOption, drop, length, slice_get};
 ghost use Rattle.sc_rooms.specs.Rooms.{place_of};
-ghost use Rattle.sc_core.specs.Bodies.{Agrees, Makes, image, queue_room};
-ghost use Rattle.sc_core.specs.Changes.{IsFirstDue, fire_at, lose, with_chart, with_invokeid, with_send_pending, with_started, without_sends};
+ghost use Rattle.sc_core.specs.Bodies.{Agrees, Makes, image};
+ghost use Rattle.sc_core.specs.Changes.{IsFirstDue, lose, numbered, with_chart, with_invokeid, with_send_pending, with_started, without_sends};
 ghost use Rattle.sc_types.specs.declared.host.TimerImage.{TimerImage};
 
 use crate::body::{Body, InstalledChart};
@@ -100,22 +100,6 @@ impl<P: Drop> Body<P> {
     {
         let _ = self.take_first();
     }
-
-    /// The first pending send, which is due, leaves, and its event joins the external queue of the session at a place.
-    pub(crate) fn fire(&mut self, place: usize, invokeid: Option<SharedBytes>)
-        requires agrees { Agrees self.old }
-        requires due { IsFirstDue self.old.clock self.old.timers.sends }
-        requires within { place < length self.old.sessions.items }
-        requires number { self.old.events + 1 < 2 ^ 128 }
-        requires ready { 0 < self.old.ready.spare }
-        requires room { 0 < queue_room self.old place }
-        ensures makes { Makes (fire_at (image self.old) place invokeid) self.old self.new }
-        ensures charts { self.new.charts.items ≡ self.old.charts.items }
-    {
-        if let Some(send) = self.take_first() {
-            self.queue(place, with_invokeid(send.event, invokeid));
-        }
-    }
 }
 
 /// An event with the id of an invocation, where one is given.
@@ -125,5 +109,13 @@ pub(crate) fn with_invokeid(mut event: Event, invokeid: Option<SharedBytes>) -> 
     if let Some(id) = invokeid {
         event.invokeid = id;
     }
+    event
+}
+
+/// An event under a number.
+pub(crate) fn numbered(number: u128, mut event: Event) -> Event
+    ensures { result ≡ numbered number event }
+{
+    event.number = number;
     event
 }

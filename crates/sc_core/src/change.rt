@@ -4,7 +4,7 @@ ghost use Rattle.sc_core.specs.Installing.{CanApply, CanApplyAll, HasRoom, HaveR
 
 use crate::body::{Body, InstalledChart};
 use crate::session::Session;
-use sc_base::{Boxed, Queue, SharedBytes, Word};
+use sc_base::{Boxed, Queue, Shared, SharedBytes, Word};
 use sc_types::{Event, SessionState, TimerImage};
 
 /// An elementary change of the host. A command is prepared as a list of them, each to be made of the host that the ones
@@ -42,10 +42,10 @@ pub enum Change<P> {
     TakeFront {
         place: usize,
     },
-    /// An event joins an external queue under the next number.
+    /// An event, which has the next number, joins an external queue. The turn that takes it shares it.
     Queue {
         place: usize,
-        event: Boxed<Event>,
+        event: Shared<Event>,
     },
     /// An event joins an internal queue.
     Tell {
@@ -78,12 +78,7 @@ pub enum Change<P> {
         session: Word,
         id: SharedBytes,
     },
-    /// The first pending send leaves and joins an external queue.
-    Fire {
-        place: usize,
-        invokeid: Option<SharedBytes>,
-    },
-    /// The first pending send is lost.
+    /// The first pending send leaves.
     Lose,
 }
 
@@ -101,9 +96,9 @@ impl<P: Drop> Body<P> {
     {
         match change {
             Change::Count => self.count(),
-            Change::PutState { place, state } => self.put_state(place, state.into_inner()),
+            Change::PutState { place, state } => self.put_state(place, state),
             Change::TakeFront { place } => self.take_front(place),
-            Change::Queue { place, event } => self.queue(place, event.into_inner()),
+            Change::Queue { place, event } => self.queue(place, event),
             change => self.change_any(change),
         }
     }
@@ -129,9 +124,9 @@ impl<P: Drop> Body<P> {
                 name,
                 session,
             } => self.bear(invoker, name, session.into_inner()),
-            Change::PutState { place, state } => self.put_state(place, state.into_inner()),
+            Change::PutState { place, state } => self.put_state(place, state),
             Change::TakeFront { place } => self.take_front(place),
-            Change::Queue { place, event } => self.queue(place, event.into_inner()),
+            Change::Queue { place, event } => self.queue(place, event),
             Change::Tell { place, event } => self.tell(place, event.into_inner()),
             Change::Flag { place } => self.flag(place),
             Change::CutOff { place } => self.cut_off(place),
@@ -139,7 +134,6 @@ impl<P: Drop> Body<P> {
             Change::End { place } => self.end(place),
             Change::Delay { send } => self.delay(send.into_inner()),
             Change::Undo { session, id } => self.undo(&session, &id),
-            Change::Fire { place, invokeid } => self.fire(place, invokeid),
             Change::Lose => self.lose(),
         }
     }

@@ -7,6 +7,7 @@ ghost use Rattle.sc_core.specs.declared.session.Session.{Session};
 
 use crate::body::Body;
 use crate::session::{is_live, is_ready, replace_state};
+use sc_base::{Boxed, Shared};
 use sc_rooms::Places;
 use sc_types::{Event, SessionState};
 
@@ -36,19 +37,18 @@ fn mark_anew(ready: &mut Places, place: usize, was: bool, is_ready: bool)
 }
 
 impl<P: Drop> Body<P> {
-    /// Puts an event into the external queue of the session at a place.
-    pub(crate) fn queue(&mut self, place: usize, mut event: Event)
+    /// Puts an event, which has the next number, into the external queue of the session at a place.
+    pub(crate) fn queue(&mut self, place: usize, event: Shared<Event>)
         requires agrees { Agrees self.old }
         requires within { place < length self.old.sessions.items }
-        requires number { self.old.events + 1 < 2 ^ 128 }
+        requires number { event.number ≡ self.old.events + 1 }
+        requires counted { self.old.events + 1 < 2 ^ 128 }
         requires ready { 0 < self.old.ready.spare }
         requires room { 0 < queue_room self.old place }
         ensures makes { Makes (queue_at (image self.old) place event) self.old self.new }
         ensures charts { self.new.charts.items ≡ self.old.charts.items }
     {
-        let number = self.events + 1;
-        event.number = number;
-        self.events = number;
+        self.events += 1;
         let session = self.sessions.item_mut(place);
         let before = session.queued.len();
         session.queued.push(event);
@@ -75,7 +75,7 @@ impl<P: Drop> Body<P> {
 
     /// Replaces the state of the session at a place.
     #[inline(always)]
-    pub(crate) fn put_state(&mut self, place: usize, state: SessionState)
+    pub(crate) fn put_state(&mut self, place: usize, state: Boxed<SessionState>)
         requires agrees { Agrees self.old }
         requires within { place < length self.old.sessions.items }
         requires name { slice_get self.old.sessions.names place ≡ Some state.session }

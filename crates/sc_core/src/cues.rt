@@ -6,7 +6,6 @@ use crate::session::Session;
 use sc_base::{NoMemory, Plain, Shared};
 use sc_rooms::RoomyQueue;
 use sc_types::{Cue, CueName, Event, Phase};
-use std::alloc::Global;
 
 /// What the next turn of a session begins with.
 pub(crate) fn cue_of(session: &Session) -> Result<Option<Cue>, NoMemory>
@@ -27,22 +26,17 @@ fn waiting_cue(session: &Session) -> Result<Option<Cue>, NoMemory>
     if session.state.internal.front().is_some() || session.failures.front().is_some() {
         return Ok(Some(Cue::Resume));
     }
-    let alloc = session.state.values.allocator();
-    outer_cue(alloc, session.flagged, &session.queued)
+    outer_cue(session.flagged, &session.queued)
 }
 
-fn outer_cue(
-    alloc: Global,
-    flagged: bool,
-    queued: &RoomyQueue<Event>,
-) -> Result<Option<Cue>, NoMemory>
+fn outer_cue(flagged: bool, queued: &RoomyQueue<Shared<Event>>) -> Result<Option<Cue>, NoMemory>
     ensures { IfOk result (λ cue. cue ≡ outer_cue flagged queued.now.items) }
 {
     if flagged {
         return Ok(Some(Cue::Cancel));
     }
     match queued.front() {
-        Some(front) => Ok(Some(Cue::External(Shared::new(alloc, front.copy()?)?))),
+        Some(front) => Ok(Some(Cue::External(front.copy()?))),
         None => Ok(None),
     }
 }

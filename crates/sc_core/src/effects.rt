@@ -1,5 +1,6 @@
 ghost use Rattle.std.specs.Prelude.{ℕ, ◌≡◌, ◌++◌, [], ◌∷◌, ◌+◌, ◌-◌, ◌^◌, ◌<◌, ◌≤◌, ◌&&◌, nat_lt, Some, IfOk, IfSome, OnOk, count_by, length, option_map, slice_get};
 ghost use Rattle.sc_core.specs.Bodies.{Agrees, image, session_image};
+ghost use Rattle.sc_core.specs.Changes.{numbered};
 ghost use Rattle.sc_core.specs.Counting.{count_after};
 ghost use Rattle.sc_core.specs.Deliveries.{delay_send, deliver, deliver_of, send_named, send_now, undo, unreachable};
 ghost use Rattle.sc_core.specs.Drafts.{Drafts, IsDraft, IsSender, Notes, so_far, stepper};
@@ -10,7 +11,7 @@ ghost use Rattle.sc_types.specs.declared.event.Event.{Event};
 ghost use Rattle.sc_types.specs.declared.host.HostImage.{HostImage};
 ghost use Rattle.sc_types.specs.declared.host.SessionImage.{SessionImage};
 
-use crate::additions::with_invokeid;
+use crate::additions::{numbered, with_invokeid};
 use crate::aims::{invokeid_for, is_cut_from, receiver_name};
 use crate::body::Body;
 use crate::change::Change;
@@ -18,7 +19,7 @@ use crate::draft::Draft;
 use crate::failures::communication_error;
 use crate::invocations::Invocation;
 use crate::session::{is_live, is_running};
-use sc_base::{Boxed, NoMemory, Plain, SharedBytes, Word};
+use sc_base::{Boxed, NoMemory, Plain, Shared, SharedBytes, Word};
 use sc_types::{Delivery, Effect, Event, InvokerImage, Phase, SessionState, TimerImage, To};
 use std::alloc::Global;
 
@@ -106,12 +107,12 @@ impl<P: Drop> Body<P> {
     ) -> Result<Delivery, NoMemory>
         requires number { draft.old.events + 1 < 2 ^ 128 }
         ensures made { IfOk result (λ told. (draft.new ≡ record draft.old {
-          changes = draft.old.changes ++ change.Queue place event ∷ [];
+          changes = draft.old.changes ++ change.Queue place (numbered (draft.old.events + 1) event) ∷ [];
           events = draft.old.events + 1;
         }) × (told ≡ Delivery.Queued (draft.old.events + 1) session)) }
     {
         let number = draft.events + 1;
-        let event = Boxed::new(alloc, event)?;
+        let event = Shared::new(alloc, numbered(number, event))?;
         draft.changes.push(Change::Queue { place, event })?;
         draft.events = number;
         Ok(Delivery::Queued { number, session })

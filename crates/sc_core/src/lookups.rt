@@ -13,7 +13,7 @@ use sc_law::Engine;
 use sc_types::{Chart, Cue, SessionState};
 use std::sync::Arc;
 
-/// What is looked up takes no memory, but for a cue, which has a copy of its event.
+/// What is looked up takes no memory: a cue shares its event with the queue.
 impl<E: Engine> HostState<E> {
     /// How many sessions were started. Their places are the numbers below it.
     pub fn count(&self) -> usize

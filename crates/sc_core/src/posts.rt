@@ -5,12 +5,13 @@ ghost use Rattle.sc_core.specs.Hosts.{session_named};
 ghost use Rattle.sc_core.specs.Preparing.{InstallNone, Prepares};
 ghost use Rattle.sc_law.specs.Runs.{pairs_data};
 
+use crate::additions::numbered;
 use crate::body::Body;
 use crate::change::Change;
 use crate::prepared::{Prepared, ended};
 use crate::session::Session;
 use crate::weights::is_too_heavy;
-use sc_base::{Boxed, NoMemory, Plain, SharedBytes, Word};
+use sc_base::{NoMemory, Plain, Shared, SharedBytes, Word};
 use sc_types::{Data, EVENT_NAME_LIMIT, Event, Kind, PAIR_LIMIT, PairList, Phase, Refusal, Reply};
 use std::alloc::Global;
 
@@ -58,8 +59,9 @@ impl<P: Drop> Body<P> {
         if let Phase::Ended(how) = &found.state.phase {
             return Ok(Prepared::refused(alloc, ended(alloc, how)?));
         }
-        let event = Boxed::new(alloc, posted_event(name, pairs)?)?;
-        let reply = Reply::Posted(self.events + 1);
+        let number = self.events + 1;
+        let event = Shared::new(alloc, numbered(number, posted_event(name, pairs)?))?;
+        let reply = Reply::Posted(number);
         Prepared::accepted(alloc, reply, Change::Queue { place, event })
     }
 

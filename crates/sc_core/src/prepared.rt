@@ -49,7 +49,7 @@ impl<P: Drop> Prepared<P> {
         ensures logs { IfOk result (λ p. p.logs ≡ []) }
         ensures sent { IfOk result (λ p. p.sent ≡ []) }
     {
-        let mut changes = Queue::new(alloc);
+        let mut changes = Queue::with_room(alloc, 2)?;
         changes.push(change)?;
         changes.push(Change::Count)?;
         Ok(Prepared {

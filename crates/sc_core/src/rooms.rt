@@ -71,7 +71,6 @@ impl<P: Drop> Body<P> {
             Change::Queue { place, .. } => self.reserve_target(*place, count),
             Change::Tell { place, .. } => self.reserve_failures(*place, count),
             Change::Delay { .. } => self.timers.reserve(count),
-            Change::Fire { place, .. } => self.reserve_queue(*place, count),
             _ => Ok(()),
         }
     }

@@ -3,6 +3,7 @@ ghost use Rattle.sc_core.specs.Cues.{is_ready};
 ghost use Rattle.sc_core.specs.Hosts.{is_live, is_running};
 ghost use Rattle.sc_core.specs.Bodies.{session_image};
 
+use sc_base::{Boxed, Shared};
 use sc_rooms::RoomyQueue;
 use sc_types::{Event, InvokerImage, Phase, SessionState};
 
@@ -17,7 +18,7 @@ pub struct Session {
     /// The back part of the internal queue: what the host adds to it, for which the room is made first.
     pub(crate) failures: RoomyQueue<Event>,
     /// The external queue.
-    pub(crate) queued: RoomyQueue<Event>,
+    pub(crate) queued: RoomyQueue<Shared<Event>>,
     /// Whether the session is to be cancelled.
     pub(crate) flagged: bool,
     pub(crate) state: SessionState,
@@ -57,9 +58,9 @@ fn is_waited_for(session: &Session) -> bool
         || session.state.internal.len() > 0
 }
 
-/// Replaces a state.
-pub(crate) fn replace_state(old: &mut SessionState, state: SessionState)
+/// Replaces a state. The one before is dropped with its place.
+pub(crate) fn replace_state(old: &mut SessionState, mut state: Boxed<SessionState>)
     ensures { old.new ≡ state }
 {
-    *old = state;
+    std::mem::swap(old, state.get_mut());
 }

@@ -28,7 +28,8 @@ fn put_changes<P: Drop>(
 ) -> Result<Queue<Change<P>>, NoMemory>
     ensures { IfOk result (λ cs. cs ≡ put_changes place cue.now after) }
 {
-    let mut changes = Queue::new(alloc);
+    // A step most often makes no change beside the two here and the count.
+    let mut changes = Queue::with_room(alloc, 3)?;
     changes.push(Change::PutState {
         place,
         state: after,

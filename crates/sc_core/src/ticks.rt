@@ -7,14 +7,15 @@ ghost use Rattle.sc_core.specs.Ticking.{Adds, fired, fired_at, fired_failed, fir
 ghost use Rattle.sc_core.specs.declared.session.Session.{Session};
 ghost use Rattle.sc_types.specs.declared.limits.TheConstants.{CLOCK_LIMIT};
 
+use crate::additions::{numbered, with_invokeid};
 use crate::aims::{Aim, invokeid_for};
 use crate::body::Body;
 use crate::change::Change;
 use crate::failures::communication_error;
 use crate::prepared::Prepared;
 use crate::session::is_running;
-use sc_base::{Boxed, BoxedSequence, NoMemory, Plain, Queue, Sequence, SharedBytes, Word};
-use sc_types::{CLOCK_LIMIT, Delivery, InvokerImage, Phase, Refusal, Reply, TimerImage};
+use sc_base::{Boxed, BoxedSequence, NoMemory, Plain, Queue, Sequence, Shared, SharedBytes, Word};
+use sc_types::{CLOCK_LIMIT, Delivery, Event, InvokerImage, Phase, Refusal, Reply, TimerImage};
 use std::alloc::Global;
 
 /// What is drafted so far of an advance of the clock.
@@ -84,17 +85,22 @@ impl<P: Drop> Draft<P> {
     /// A send that comes due reaches the session at a place, which has this name.
     fn reach(
         &mut self,
+        alloc: Global,
         place: usize,
         name: &Word,
         invoker: &Option<InvokerImage>,
+        event: &Event,
     ) -> Result<(), NoMemory>
         requires number { self.old.events + 1 < 2 ^ 128 }
-        ensures { OnOk result (Adds (fired_at self.old.events place invoker.now name.now) self.old self.new) }
+        ensures { OnOk result (Adds (fired_at self.old.events place invoker.now event.now name.now) self.old self.new) }
     {
         let number = self.events + 1;
         let session = name.copy()?;
         let invokeid = invokeid_for(invoker, name)?;
-        self.changes.push(Change::Fire { place, invokeid })?;
+        let event = numbered(number, with_invokeid(event.copy()?, invokeid));
+        let event = Shared::new(alloc, event)?;
+        self.changes.push(Change::Lose)?;
+        self.changes.push(Change::Queue { place, event })?;
         self.sent.push(Delivery::Queued { number, session })?;
         self.events = number;
         Ok(())
@@ -159,7 +165,13 @@ impl<P: Drop> Body<P> {
             return draft.lose();
         };
         match self.aim(place, &sender.state, &sender.invoker, &send.to) {
-            Aim::Reaches(to) => draft.reach(to, self.name_at(to), &sender.invoker),
+            Aim::Reaches(to) => draft.reach(
+                alloc,
+                to,
+                self.name_at(to),
+                &sender.invoker,
+                &send.event,
+            ),
             Aim::Fails => draft.fail(alloc, place, &sender.state.phase, &send.event.sendid),
             Aim::Drops => draft.lose(),
         }

@@ -19,8 +19,7 @@ start-requires-clause-new g c =
 pub put_state-requires-clause-name : goal.put_state-requires-clause-name
 put_state-requires-clause-name g c =
     let can = subst (CanApply (image c.args.self.now)) c.in-PutState.is c.requires.can in
-    rw c.into_inner-in-PutState.ensures
-    (name_there c.args.self.now c.in-PutState.place c.in-PutState.state.session c.requires.agrees can.1)
+    name_there c.args.self.now c.in-PutState.place c.in-PutState.state.session c.requires.agrees can.1
 
 pub start-requires-clause-invoker : goal.start-requires-clause-invoker
 start-requires-clause-invoker g c =

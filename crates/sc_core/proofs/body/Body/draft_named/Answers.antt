@@ -2,7 +2,7 @@ use Rattle.std.proofs.Common.{◌≡◌, ◌+◌, ◌++◌, ◌∷◌, [], Some,
 use Rattle.sc_types.specs.declared.history.Delivery.TheVariants.{Dropped, Queued}
 use Rattle.sc_core.specs.Aims.{invokeid_for}
 use Rattle.sc_core.specs.Bodies.{image}
-use Rattle.sc_core.specs.Changes.{with_invokeid}
+use Rattle.sc_core.specs.Changes.{numbered, with_invokeid}
 use Rattle.sc_core.specs.Deliveries.{arriving, hand_to, left_as, send_named, unreachable}
 use Rattle.sc_core.specs.Drafts.{so_far, stepper}
 use Rattle.sc_core.specs.declared.change.Change.TheVariants.{Queue}
@@ -56,6 +56,6 @@ returns-clause-told g c =
     (send_named (so_far h old) c.args.place t e (Some name)) told
     (sent_is_handed (so_far h old) c.args.place place t found.0 e name (sym (c.if-is_cut_from.ensures t invoker)) found.1)
     (hand_drafted who h old _ place found.0 name (arriving t name e) told sender.draft found.2 c.requires.number
-    (made.0 ∙ ap (λ x. record old { changes = old.changes ++ Queue place x ∷ []; events = old.events + 1 }) arrived)
+    (made.0 ∙ ap (λ x. record old { changes = old.changes ++ Queue place (numbered (old.events + 1) x) ∷ []; events = old.events + 1 }) arrived)
     (made.1 ∙ ap (λ n. Queued (old.events + 1) n) c.in_ok-copy.ensures)))
     c.draft_queue.result c.draft_queue.ensures.made

@@ -1,7 +1,5 @@
-use Rattle.std.proofs.Common.{◌≡◌, ◌+◌, ◌≤◌, [], ◌∷◌, ◌++◌, List, length, arith, length-append, rules}
+use Rattle.std.proofs.Common.{◌≡◌, ◌+◌, [], ◌∷◌, ◌++◌, length, arith, length-append, rules}
 use Rattle.std.specs.Vec.{vec_len}
-use Rattle.sc_types.specs.declared.history.Entry.{Entry}
-use Rattle.sc_core.specs.Keeping.{AreWithin, IsWithin, entry_of}
 use Rattle.sc_core.specs.declared.kept.Kept.TheVariants as kept
 use Rattle.sc_core.proofs.KeptLemmas.{put_whole, within_behind, within_more}
 use Rattle.sc_core.proofs.kept.Store.push.Goals as goal
