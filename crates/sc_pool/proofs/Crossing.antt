@@ -207,7 +207,10 @@ session_send = declared_send session.the_type (
       roomy_queue.the_send usize usize_send,
       (
         roomy_queue.the_send event.the_row event_send,
-        (roomy_queue.the_send event.the_row event_send, (search sendable, (state_send, tt))),
+        (
+          roomy_queue.the_send _ (shared.the_send _ event_send event_sync),
+          (search sendable, (state_send, tt)),
+        ),
       ),
     ),
   ),
