@@ -134,6 +134,7 @@ impl<'e, E: Engine, D: Disk> Book<'e, E, D> {
                 self.host.install(&mut prepared);
                 let moment = self.journal.moment();
                 self.log.enter(entry_of(who, command, prepared), moment);
+                self.log.body = body;
                 Ok(receipt)
             }
             None => {

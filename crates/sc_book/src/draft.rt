@@ -11,7 +11,7 @@ ghost use Rattle.sc_types.specs.Values.{fits};
 use crate::log::Log;
 use crate::receipt::Receipt;
 use sc_base::{Bytes, NoMemory, Plain, PlainName};
-use sc_codec::encode;
+use sc_codec::encode_in;
 use sc_core::{HostState, Prepared};
 use sc_law::{Engine, Turned};
 use sc_types::{Command, Reply, Value};
@@ -56,25 +56,25 @@ fn has_fitting_values(command: &Command) -> bool
 }
 
 /// The body of a command that the host accepts. `NoMemory` also where a value in it is past the limits of values, for
-/// which the journal has no form.
-fn body_of(alloc: Global, command: &Command) -> Result<Bytes, NoMemory>
+/// which the journal has no form. It is made in the memory of another.
+fn body_of(memory: Bytes, command: &Command) -> Result<Bytes, NoMemory>
     requires entry { FitsEntry command.now }
     ensures { IfOk result (IsBodyOf command.now) }
 {
     if !has_fitting_values(command) {
         return Err(NoMemory);
     }
-    encode(alloc, command)
+    encode_in(memory, command)
 }
 
 /// The body of a command with this reply: none where it is refused.
-fn journaled(alloc: Global, command: &Command, reply: &Reply) -> Result<Option<Bytes>, NoMemory>
+fn journaled(memory: Bytes, command: &Command, reply: &Reply) -> Result<Option<Bytes>, NoMemory>
     requires entry { is_accepted reply.now ≡ true → FitsEntry command.now }
     ensures { IfOk result (HasBody (is_accepted reply.now) command.now) }
 {
     match reply {
         Reply::Refused(_) => Ok(None),
-        _ => Ok(Some(body_of(alloc, command)?)),
+        _ => Ok(Some(body_of(memory, command)?)),
     }
 }
 
@@ -119,7 +119,8 @@ pub(crate) fn draft_entry<E: Engine>(
     let prepared = prepare(engine, host, command, turned)?;
     let number = (log.history.len() as u64).checked_add(1).ok_or(NoMemory)?;
     let receipt = receipt_of(&prepared, number)?;
-    let body = journaled(alloc, command, &prepared.reply)?;
+    let memory = std::mem::replace(&mut log.body, Bytes::new(alloc));
+    let body = journaled(memory, command, &prepared.reply)?;
     Ok(Draft {
         prepared,
         receipt,

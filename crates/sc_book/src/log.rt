@@ -2,7 +2,7 @@ ghost use Rattle.std.specs.Prelude.{◌≡◌, ◌-◌, ◌<◌, ◌≤◌, [], 
 ghost use Rattle.sc_book.specs.Keeping.{IsSameLog, HasRoom};
 
 use crate::doubt::Doubt;
-use sc_base::NoMemory;
+use sc_base::{Bytes, NoMemory};
 use sc_core::History;
 use sc_rooms::RoomyQueue;
 use sc_types::Entry;
@@ -15,6 +15,8 @@ pub(crate) struct Log {
     pub(crate) history: History,
     pub(crate) moments: RoomyQueue<u64>,
     pub(crate) doubts: RoomyQueue<Doubt>,
+    /// The body that was added to the journal last. The next one is made in its memory.
+    pub(crate) body: Bytes,
 }
 
 impl Log {
@@ -27,6 +29,7 @@ impl Log {
             history: History::new(alloc),
             moments: RoomyQueue::new(alloc),
             doubts: RoomyQueue::new(alloc),
+            body: Bytes::new(alloc),
         }
     }
 

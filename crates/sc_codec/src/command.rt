@@ -24,7 +24,17 @@ pub fn encode(alloc: Global, command: &Command) -> Result<Bytes, NoMemory>
     requires { IsEncodable command.now }
     ensures { IfOk result (λ body. Spells body command.now) }
 {
-    let mut out = Vec::with_capacity(alloc, USUAL_ROOM)?;
+    encode_in(Bytes::new(alloc), command)
+}
+
+/// The same body in the memory of another, whose bytes go.
+pub fn encode_in(memory: Bytes, command: &Command) -> Result<Bytes, NoMemory>
+    requires { IsEncodable command.now }
+    ensures { IfOk result (λ body. Spells body command.now) }
+{
+    let mut out = memory.into_vec();
+    out.clear();
+    out.reserve(USUAL_ROOM)?;
     put_command(&mut out, command)?;
     Ok(Bytes::from_vec(out))
 }

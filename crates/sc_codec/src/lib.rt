@@ -11,6 +11,6 @@ mod name;
 mod pair;
 mod value;
 
-pub use command::{decode, encode};
+pub use command::{decode, encode, encode_in};
 pub use encodable::is_encodable;
 pub use fault::CodecFault;

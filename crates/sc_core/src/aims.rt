@@ -81,7 +81,7 @@ fn takes_events(found: usize, session: &Session, place: usize, phase: &Phase) ->
     if found == place {
         return is_live(phase);
     }
-    is_live(&session.state.phase)
+    is_live(&session.state().phase)
 }
 
 /// The place of a session that is born in the step under way.

@@ -6,7 +6,7 @@ ghost use Rattle.sc_core.specs.Hosts.{is_live};
 ghost use Rattle.sc_core.specs.declared.session.Session.{Session};
 
 use crate::body::Body;
-use crate::session::{is_live, is_ready, replace_state};
+use crate::session::{is_live, is_ready};
 use sc_base::{Boxed, Shared};
 use sc_rooms::Places;
 use sc_types::{Event, SessionState};
@@ -86,7 +86,7 @@ impl<P: Drop> Body<P> {
         let session = self.sessions.item_mut(place);
         let was = is_ready(session);
         session.failures.clear();
-        replace_state(&mut session.state, state);
+        session.state = state;
         mark_anew(&mut self.ready, place, was, is_ready(session));
     }
 
@@ -128,7 +128,7 @@ impl<P: Drop> Body<P> {
             false }
     {
         match self.sessions.get(place) {
-            Some(session) => !is_live(&session.state.phase),
+            Some(session) => !is_live(&session.state().phase),
             None => false,
         }
     }
@@ -146,7 +146,7 @@ impl<P: Drop> Body<P> {
         }
         let session = self.sessions.item_mut(place);
         session.queued.clear();
-        let _ = self.timers.discard(session.state.session.bytes());
+        let _ = self.timers.discard(session.state().session.bytes());
         mark(&mut self.ready, place, is_ready(session));
     }
 }

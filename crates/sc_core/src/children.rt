@@ -11,7 +11,7 @@ use crate::body::Body;
 use crate::changes::mark;
 use crate::session::{Session, is_ready};
 use sc_base::{Sequence, Word};
-use sc_types::{Invoked, InvokerImage};
+use sc_types::{Invoked, InvokerImage, SessionState};
 
 /// Cuts a session off from its invoker.
 fn cut(invoker: &mut Option<InvokerImage>)
@@ -22,13 +22,24 @@ fn cut(invoker: &mut Option<InvokerImage>)
     }
 }
 
-/// Takes the invocation of a child out.
+/// The invocations but that of a child.
 fn without_child(invokes: Sequence<Invoked>, child: &Word) -> Sequence<Invoked>
     ensures { result ≡ filter (λ (i : Invoked). not (bytes_eq i.child child.now)) invokes }
 {
     let mut left = invokes.into_vec();
     left.retain(|invoked| invoked.child.bytes() != child.bytes());
     Sequence::from_vec(left)
+}
+
+/// Takes the invocation of a child out of those that run in a state.
+fn drop_child(state: &mut SessionState, child: &Word)
+    ensures { state.new ≡ record state.old {
+      invokes = filter (λ (i : Invoked). not (bytes_eq i.child child.now)) state.old.invokes;
+    } }
+{
+    let none = Sequence::new(state.invokes.allocator());
+    let invokes = std::mem::replace(&mut state.invokes, none);
+    state.invokes = without_child(invokes, child);
 }
 
 impl<P: Drop> Body<P> {
@@ -76,9 +87,7 @@ impl<P: Drop> Body<P> {
         ensures charts { self.new.charts.items ≡ self.old.charts.items }
     {
         let session = self.sessions.item_mut(place);
-        let none = Sequence::new(session.state.invokes.allocator());
-        let invokes = std::mem::replace(&mut session.state.invokes, none);
-        session.state.invokes = without_child(invokes, child);
+        drop_child(session.state.get_mut(), child);
         mark(&mut self.ready, place, is_ready(session));
     }
 }

@@ -11,7 +11,7 @@ use sc_types::{Cue, CueName, Event, Phase};
 pub(crate) fn cue_of(session: &Session) -> Result<Option<Cue>, NoMemory>
     ensures { IfOk result (λ cue. cue ≡ cue_of (session_image session.now)) }
 {
-    match &session.state.phase {
+    match &session.state().phase {
         Phase::Fresh => Ok(Some(Cue::Fresh)),
         Phase::Running => waiting_cue(session),
         Phase::Ended(_) => Ok(None),
@@ -23,7 +23,7 @@ fn waiting_cue(session: &Session) -> Result<Option<Cue>, NoMemory>
         ≡ waiting_cue (session.now.state.internal ++ session.now.failures.items) session.now.flagged
         session.now.queued.items) }
 {
-    if session.state.internal.front().is_some() || session.failures.front().is_some() {
+    if session.state().internal.front().is_some() || session.failures.front().is_some() {
         return Ok(Some(Cue::Resume));
     }
     outer_cue(session.flagged, &session.queued)

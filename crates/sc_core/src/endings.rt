@@ -69,7 +69,7 @@ fn is_left<P>(changes: &Queue<Change<P>>, place: usize, child: usize, session: &
     ensures { result ≡ is_left changes.now place child session.now }
 {
     child != place
-        && is_live(&session.state.phase)
+        && is_live(&session.state().phase)
         && !is_cut(&session.invoker)
         && !is_cut_in(changes, child)
 }
@@ -143,7 +143,7 @@ impl<P: Drop> Body<P> {
             return Ok(());
         }
         left.push(Placed {
-            name: session.state.session.copy()?,
+            name: session.state().session.copy()?,
             place: child,
         })
     }

@@ -47,7 +47,7 @@ fn is_turn_of<E: Engine>(body: &Body<E::Plan>, place: usize, cue: &Cue, turned: 
         Some(session) => is_of(
             turned,
             &chart_at::<E>(body, place).chart,
-            &session.state,
+            session.state(),
             cue,
         ),
         None => false,

@@ -41,11 +41,11 @@ fn input_of<E: Engine>(
     let Some(session) = body.sessions.get(place) else {
         unreachable!();
     };
-    let Some(chart) = body.chart_named(&session.state.chart) else {
+    let Some(chart) = body.chart_of(session) else {
         unreachable!();
     };
     let plan = chart.plan.clone()?;
-    let before = session.state.boxed(alloc)?;
+    let before = session.state().boxed(alloc)?;
     Ok(TurnInput { plan, before, cue })
 }
 

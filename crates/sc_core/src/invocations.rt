@@ -73,7 +73,7 @@ fn link(invoker: &Word, invokeid: SharedBytes) -> Result<InvokerImage, NoMemory>
 }
 
 /// A session in this state, with nothing in its queues and no child.
-fn invoked(alloc: Global, state: SessionState, link: InvokerImage, depth: u32) -> Session
+fn invoked(alloc: Global, state: Boxed<SessionState>, link: InvokerImage, depth: u32) -> Session
     ensures image { session_image result ≡ record {
       state = state;
       queued = [];

@@ -37,7 +37,7 @@ impl<E: Engine> HostState<E> {
             → result.now ≡ record s.state { internal = result.now.internal } }
     {
         match self.body.sessions.get(place) {
-            Some(session) => &session.state,
+            Some(session) => session.state(),
             None => unreachable!(),
         }
     }

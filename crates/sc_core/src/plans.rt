@@ -11,6 +11,7 @@ ghost use Rattle.sc_core.specs.declared.session.Session.{Session};
 ghost use Rattle.sc_types.specs.declared.host.SessionImage.{SessionImage};
 
 use crate::body::{Body, InstalledChart};
+use crate::session::Session;
 use sc_base::{NoMemory, Word};
 use sc_law::{Engine, TurnResult};
 use sc_types::{Cue, Phase};
@@ -26,6 +27,15 @@ impl<P: Drop> Body<P> {
         let place = self.chart_place(name)?;
         self.charts.get(place)
     }
+
+    /// The installed chart that a session runs.
+    pub(crate) fn chart_of(&self, session: &Session) -> Option<&InstalledChart<P>>
+        requires agrees { Agrees self.now }
+        ensures { option_copied result
+            ≡ option_and_then (slice_get self.now.charts.items) (chart_place (image self.now) session.now.state.chart) }
+    {
+        self.chart_named(&session.state().chart)
+    }
 }
 
 /// The installed chart that the session at a place runs.
@@ -40,7 +50,7 @@ pub(crate) fn chart_at<E: Engine>(body: &Body<E::Plan>, place: usize) -> &Instal
     let Some(session) = body.sessions.get(place) else {
         unreachable!();
     };
-    let Some(chart) = body.chart_named(&session.state.chart) else {
+    let Some(chart) = body.chart_of(session) else {
         unreachable!();
     };
     chart
@@ -66,8 +76,8 @@ pub(crate) fn turn_of<E: Engine>(
     let Some(session) = body.sessions.get(place) else {
         unreachable!();
     };
-    let Some(chart) = body.chart_named(&session.state.chart) else {
+    let Some(chart) = body.chart_of(session) else {
         unreachable!();
     };
-    e.give(alloc, &chart.plan, &session.state, cue)
+    e.give(alloc, &chart.plan, session.state(), cue)
 }

@@ -56,7 +56,7 @@ impl<P: Drop> Body<P> {
         let Some((place, found)) = self.session_named(session) else {
             return Ok(Prepared::refused(alloc, Refusal::NoSession));
         };
-        if let Phase::Ended(how) = &found.state.phase {
+        if let Phase::Ended(how) = &found.state().phase {
             return Ok(Prepared::refused(alloc, ended(alloc, how)?));
         }
         let number = self.events + 1;
@@ -81,7 +81,7 @@ impl<P: Drop> Body<P> {
         let Some((place, found)) = self.session_named(session) else {
             return Ok(Prepared::refused(alloc, Refusal::NoSession));
         };
-        if let Phase::Ended(how) = &found.state.phase {
+        if let Phase::Ended(how) = &found.state().phase {
             return Ok(Prepared::refused(alloc, ended(alloc, how)?));
         }
         Prepared::accepted(alloc, Reply::Cancelled, Change::Flag { place })

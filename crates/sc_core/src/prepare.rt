@@ -33,7 +33,7 @@ impl<P: Drop> Body<P> {
         let Some((place, found)) = self.session_named(session) else {
             return Ok(Err(Refusal::NoSession));
         };
-        if let Phase::Ended(how) = &found.state.phase {
+        if let Phase::Ended(how) = &found.state().phase {
             return Ok(Err(ended(alloc, how)?));
         }
         match cue_of(found)? {

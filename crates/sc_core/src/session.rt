@@ -21,14 +21,24 @@ pub struct Session {
     pub(crate) queued: RoomyQueue<Shared<Event>>,
     /// Whether the session is to be cancelled.
     pub(crate) flagged: bool,
-    pub(crate) state: SessionState,
+    /// In a place of its own, so that a step puts the next one in without moving it.
+    pub(crate) state: Boxed<SessionState>,
+}
+
+impl Session {
+    #[inline(always)]
+    pub(crate) fn state(&self) -> &SessionState
+        ensures { result.now ≡ self.now.state }
+    {
+        self.state.get()
+    }
 }
 
 /// Whether a session has a cue.
 pub(crate) fn is_ready(session: &Session) -> bool
     ensures { result ≡ is_ready (session_image session.now) }
 {
-    match &session.state.phase {
+    match &session.state().phase {
         Phase::Fresh => true,
         Phase::Running => is_waited_for(session),
         Phase::Ended(_) => false,
@@ -55,12 +65,5 @@ fn is_waited_for(session: &Session) -> bool
     session.queued.len() > 0
         || session.flagged
         || session.failures.len() > 0
-        || session.state.internal.len() > 0
-}
-
-/// Replaces a state. The one before is dropped with its place.
-pub(crate) fn replace_state(old: &mut SessionState, mut state: Boxed<SessionState>)
-    ensures { old.new ≡ state }
-{
-    std::mem::swap(old, state.get_mut());
+        || session.state().internal.len() > 0
 }

@@ -16,7 +16,7 @@ fn settle(session: &mut Session) -> Result<(), NoMemory>
     ensures spare { session.old.failures.spare ≤ session.new.failures.spare }
 {
     while let Some(event) = session.failures.front() {
-        session.state.internal.push(event.copy()?)?;
+        session.state.get_mut().internal.push(event.copy()?)?;
         let _ = session.failures.pop_front();
     }
     Ok(())

@@ -132,10 +132,10 @@ pub(crate) fn fresh_state(
     session: &Word,
     chart: &Word,
     params: PairList,
-) -> Result<SessionState, NoMemory>
+) -> Result<Boxed<SessionState>, NoMemory>
     ensures { IfOk result (λ s. s ≡ fresh_state session.now chart.now params) }
 {
-    Ok(SessionState {
+    let state = SessionState {
         session: session.copy()?,
         chart: chart.copy()?,
         phase: Phase::Fresh,
@@ -149,7 +149,8 @@ pub(crate) fn fresh_state(
         params,
         sends: 0,
         born: 0,
-    })
+    };
+    Boxed::new(alloc, state)
 }
 
 fn fresh_session(alloc: Global, session: &Word, chart: &Word) -> Result<Boxed<Session>, NoMemory>

@@ -131,7 +131,7 @@ impl<P: Drop> Body<P> {
             ≡ Some result.now }
     {
         match self.sessions.get(place) {
-            Some(session) => &session.state.session,
+            Some(session) => &session.state().session,
             None => unreachable!(),
         }
     }
@@ -164,7 +164,7 @@ impl<P: Drop> Body<P> {
         let Some((place, sender)) = self.session_named(&send.session) else {
             return draft.lose();
         };
-        match self.aim(place, &sender.state, &sender.invoker, &send.to) {
+        match self.aim(place, sender.state(), &sender.invoker, &send.to) {
             Aim::Reaches(to) => draft.reach(
                 alloc,
                 to,
@@ -172,7 +172,7 @@ impl<P: Drop> Body<P> {
                 &sender.invoker,
                 &send.event,
             ),
-            Aim::Fails => draft.fail(alloc, place, &sender.state.phase, &send.event.sendid),
+            Aim::Fails => draft.fail(alloc, place, &sender.state().phase, &send.event.sendid),
             Aim::Drops => draft.lose(),
         }
     }

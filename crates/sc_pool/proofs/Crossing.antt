@@ -209,7 +209,7 @@ session_send = declared_send session.the_type (
         roomy_queue.the_send event.the_row event_send,
         (
           roomy_queue.the_send _ (shared.the_send _ event_send event_sync),
-          (search sendable, (state_send, tt)),
+          (search sendable, (boxed.the_send _ state_send, tt)),
         ),
       ),
     ),
@@ -269,7 +269,7 @@ doubt_send = declared_send doubt.the_type (who_send, (command_send, (search send
 
 log_send : IsSend log.the_row
 log_send = declared_send log.the_type
-    (history_send, (roomy_queue.the_send u64 u64_send, (roomy_queue.the_send doubt.the_row doubt_send, tt)))
+    (history_send, (roomy_queue.the_send u64 u64_send, (roomy_queue.the_send doubt.the_row doubt_send, (bytes.the_send, tt))))
 
 module _ (a : NamedLft) (E D P : RattleType) (g : engine.Ghosts E.Denot P.Denot) (d : disk.Ghosts D.Denot)
     (engine_sync : IsSync E) (disk_send : IsSend D) (plan_send : IsSend P) (plan_sync : IsSync P) where

@@ -6,4 +6,4 @@ pub returns-in-Some : goal.returns-in-Some
 returns-in-Some g c = λ yes s there.
     let of = c.is_of.ensures yes in
     handed_is c.args.body.now c.args.place c.in-Some.session.now c.args.cue.now c.args.turned.now s (sym c.in-Some.ensures)
-    c.requires.settled there of.2 of.1 (of.0 ∙ c.deref.ensures ∙ c.chart_at.ensures.chart s there)
+    c.requires.settled there of.2 (of.1 ∙ c.state.ensures) (of.0 ∙ c.deref.ensures ∙ c.chart_at.ensures.chart s there)

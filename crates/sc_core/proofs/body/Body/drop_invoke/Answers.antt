@@ -1,4 +1,4 @@
-use Rattle.std.proofs.Common.{ap, refl, sym, arith, ◌∙◌}
+use Rattle.std.proofs.Common.{ap, refl, arith, ◌∙◌}
 use Rattle.sc_core.specs.Bodies.{image, marked}
 use Rattle.sc_core.specs.Deliveries.{without_invoke}
 use Rattle.sc_core.specs.Hosts.{with_session}
@@ -11,6 +11,7 @@ returns-clause-makes g c =
     let s = c.item_mut-session.result.now in
     set_session h c.args.place s _ _ h.events h.timers
     (λ s. with_session (image h) c.args.place (without_invoke c.args.child.now s))
-    c.requires.agrees c.item_mut-session.ensures.value refl (omega arith) (omega arith)
+    c.requires.agrees c.item_mut-session.ensures.value (rw (c.drop_child.ensures, c.get_mut.ensures.value) refl)
+    (omega arith) (omega arith)
     (c.mark.ensures.places ∙ ap (λ b. marked b c.args.place h.ready.places) c.is_ready.ensures)
-    c.mark.ensures.room (omega arith) refl refl (rw (c.without_child.ensures, sym c.replace-invokes.ensures.value) refl)
+    c.mark.ensures.room (omega arith) refl refl (rw (c.drop_child.ensures, c.get_mut.ensures.value) refl)

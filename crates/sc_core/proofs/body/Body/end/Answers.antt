@@ -1,4 +1,5 @@
 use Rattle.std.proofs.Common.{filter, not, [], ap, sym, refl, arith, ◌∙◌}
+use Rattle.sc_types.specs.declared.session.SessionState.{SessionState}
 use Rattle.sc_core.specs.Bodies.{image, marked, session_image}
 use Rattle.sc_core.specs.Changes.{clear_in}
 use Rattle.sc_core.specs.Hosts.{with_session}
@@ -25,4 +26,4 @@ returns-clause-makes g c =
     (clear_over (image h) c.args.place (session_image s) ended
     ∙ ap (λ name. record (with_session (image h) c.args.place (record (session_image s) { queued = [] })) {
       timers = filter (λ t. not (is_of name t)) h.timers.sends;
-    }) (sym c.bytes.ensures.value))))
+    }) (sym (c.bytes.ensures.value ∙ ap (λ (x : SessionState). x.session) c.state.ensures)))))

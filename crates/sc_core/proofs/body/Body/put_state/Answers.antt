@@ -1,5 +1,4 @@
 use Rattle.std.proofs.Common.{append-nil, ap, sym, arith, ◌∙◌, refl}
-use Rattle.sc_types.specs.declared.session.SessionState.{SessionState}
 use Rattle.sc_core.specs.Bodies.{image, marked, session_image}
 use Rattle.sc_core.specs.Hosts.{with_session}
 use Rattle.sc_core.proofs.SetLemmas.{name_at, set_session, stays_marked}
@@ -12,11 +11,10 @@ returns-clause-makes g c =
     set_session h c.args.place s _ _ h.events h.timers
     (λ s. with_session (image h) c.args.place (record s { state = c.args.state }))
     c.requires.agrees c.item_mut-session.ensures.value
-    (ap (λ (x : SessionState). x.session) c.replace_state.ensures
-    ∙ name_at h c.args.place s c.args.state.session c.requires.agrees c.item_mut-session.ensures.value c.requires.name)
+    (name_at h c.args.place s c.args.state.session c.requires.agrees c.item_mut-session.ensures.value c.requires.name)
     (omega arith) (omega (arith, c.clear.ensures.spare)) (c.mark_anew.ensures.places ∙ ap (λ b. marked b c.args.place h.ready.places) c.is_ready.ensures)
     c.mark_anew.ensures.room (omega arith) refl refl
-    (rw (c.replace_state.ensures, c.clear.ensures.items) (ap
+    (rw c.clear.ensures.items (ap
     (λ es. with_session (image h) c.args.place (record (session_image s) { state = record c.args.state { internal = es } }))
     (sym (append-nil c.args.state.internal))))
 
