@@ -35,6 +35,7 @@ impl<'e, E: Engine, D: Disk> Run<'e, E, D> {
     ghost use Rattle.sc_top.specs.Running.{Goes, GoesOn, HasStepped, IsUnmade, Makes, Stops, run_of};
 
     /// Makes a command.
+    #[inline(always)]
     fn make(&mut self, alloc: Global, who: Who, command: Command) -> Result<(), CallFault>
         ensures ok { OnOk result (Makes (run_of self.old.book self.old.left)
             (run_of self.new.book self.new.left) who command) }
