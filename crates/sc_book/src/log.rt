@@ -15,7 +15,7 @@ pub(crate) struct Log {
     pub(crate) history: History,
     pub(crate) moments: RoomyQueue<u64>,
     pub(crate) doubts: RoomyQueue<Doubt>,
-    /// The body that was added to the journal last. The next one is made in its memory.
+    /// The body of the command before where that was accepted, and else nothing. The next one is made in its memory.
     pub(crate) body: Bytes,
 }
 

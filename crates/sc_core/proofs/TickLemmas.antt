@@ -16,6 +16,7 @@ use Rattle.sc_types.specs.declared.host.HostImage.{HostImage}
 use Rattle.sc_types.specs.declared.host.InvokerImage.{InvokerImage}
 use Rattle.sc_types.specs.declared.host.SessionImage.{SessionImage}
 use Rattle.sc_types.specs.declared.host.TimerImage.{TimerImage}
+use Rattle.sc_types.specs.declared.session.SessionState.{SessionState}
 use Rattle.sc_core.specs.Aims.{Outline, aim, carried, invokeid_for, outline, outlines, received}
 use Rattle.sc_core.specs.Bodies.{image, session_image}
 use Rattle.sc_core.specs.Changes.{IsFirstDue, lose, numbered, put_state, queue_at, tell, with_invokeid}
@@ -393,6 +394,15 @@ fired_reaches {P = P} h n t place s a to name found at aims is named =
     by (Some r) is =
         let same : r.state.session ≡ name = cc in
         ap (fired_at {P = P} n to s.invoker t.event) same
+
+-- where a send goes is told of the state that was looked at, and so of the one that the session holds
+pub aim_held : {P : Type 0} (h : Body P) (t : TimerImage) (place : ℕ) (s : Session) (seen : SessionState) (a : Aim)
+    → seen ≡ s.state
+    → (s.state.session ≡ seen.session → a ≡ aim (put_state (image h) place seen) (session_image s) t.to)
+    → a ≡ aim (put_state (image h) place s.state) (session_image s) t.to
+aim_held h t place s seen a is aims =
+    aims (sym (ap (λ (x : SessionState). x.session) is))
+    ∙ ap (λ x. aim (put_state (image h) place x) (session_image s) t.to) is
 
 -- a send that reaches nobody
 pub fired_fails : {P : Type 0} (h : Body P) (n : ℕ) (t : TimerImage) (place : ℕ) (s : Session) (a : Aim)

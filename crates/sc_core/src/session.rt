@@ -26,6 +26,7 @@ pub struct Session {
 }
 
 impl Session {
+    /// The state, to be looked at.
     #[inline(always)]
     pub(crate) fn state(&self) -> &SessionState
         ensures { result.now ≡ self.now.state }
