@@ -1,5 +1,5 @@
 -- The changes of a list are made one after another, within the room that was made for all.
-use Rattle.std.proofs.Common.{◌≡◌, ℕ, ◌+◌, ◌-◌, ◌<◌, ◌≤◌, ◌==◌, ◌++◌, nat_lt, zero, suc, Bool, true, false, Option, Some, None, List, [], ◌∷◌, length, length-append, slice_get, refl, arith, ap, subst, sym, ◌∙◌}
+use Rattle.std.proofs.Common.{◌≡◌, ℕ, ◌+◌, ◌-◌, ◌<◌, ◌≤◌, ◌==◌, ◌++◌, nat_lt, zero, suc, Bool, true, false, Option, Some, None, List, [], ◌∷◌, IfSome, length, length-append, slice_get, refl, arith, ap, subst, sym, ◌∙◌}
 use Rattle.std.proofs.lemmas.Bool.Decides.{nat_tests}
 use Rattle.std.proofs.lemmas.List.{length-set}
 use Rattle.std.specs.Option.{option_map_or}
@@ -9,25 +9,18 @@ use Rattle.sc_types.specs.declared.host.SessionImage.{SessionImage}
 use Rattle.sc_types.specs.declared.session.Phase.{Phase}
 use Rattle.sc_types.specs.declared.session.Phase.TheVariants as phase
 use Rattle.sc_core.specs.Bodies.{Agrees, Lowers, Makes, image, session_image}
+use Rattle.sc_core.specs.ChangeLists.{first_of, taken_of}
 use Rattle.sc_core.specs.Changes.{at_session, clear_at, clear_in, queue_at}
 use Rattle.sc_core.specs.Deliveries.{queue}
 use Rattle.sc_core.specs.Hosts.{with_session}
 use Rattle.sc_core.specs.Installing.{CanApply, CanApplyAll, HasRoom, HaveRoom, HaveRoomOf, IsNewest, apply, charts_after, charts_with, installed, new_rooms, queue_rooms, room_at, rooms_ahead}
+use Rattle.sc_core.specs.Makings.{CanChange, CanMakeFirst, Installs}
 use Rattle.sc_core.specs.declared.body.Body.{Body}
 use Rattle.sc_core.specs.declared.change.Change.{Change}
 use Rattle.sc_core.specs.declared.change.Change.TheVariants.{Count, Advance, Install, Start, Bear, PutState, TakeFront, Queue, Tell, Flag, CutOff, DropInvoke, End, Delay, Undo, Lose}
 use Rattle.sc_core.specs.declared.session.Session.{Session}
 use Rattle.sc_core.proofs.RoomLemmas.{room_first, room_is, room_second}
 use Rattle.sc_core.proofs.SetLemmas.{map_long}
-
--- what a loop over the changes keeps
-pub record Installs {P : Type 0} (whole rest : List (Change P)) (h k : Body P) : Type 0 where
-  pub reaches : installed rest (image k) ≡ installed whole (image h)
-  pub charts : charts_after rest k.charts.items ≡ charts_after whole h.charts.items
-  pub can : CanApplyAll (image k) rest
-  pub ready : length rest ≤ k.ready.spare
-  pub room : HaveRoom (length rest) k rest
-  pub agrees : Agrees k
 
 -- each queue's room is less by one at most
 abbrev FewLess : List ℕ → List ℕ → Type 0
@@ -253,12 +246,6 @@ rooms_lowered h k (Delay send) cs made newest = none_ahead h k (Delay send) cs t
 rooms_lowered h k (Undo session id) cs made newest = none_ahead h k (Undo session id) cs tt made
 rooms_lowered h k Lose cs made newest = none_ahead h k Lose cs tt made
 
--- what the first change of those that are left needs
-pub record CanChange {P : Type 0} (c : Change P) (k : Body P) : Type 0 where
-  pub can : CanApply (image k) c
-  pub ready : 1 ≤ k.ready.spare
-  pub room : HasRoom 1 k (queue_rooms k) c
-
 pub next_change : {P : Type 0} (whole rest : List (Change P)) (c : Change P) (cs : List (Change P)) (h k : Body P)
     → rest ≡ c ∷ cs → Installs whole rest h k → CanChange c k
 next_change {P = P} whole rest c cs h k is l =
@@ -285,3 +272,22 @@ pub all_installed : {P : Type 0} (whole rest : List (Change P)) (h k : Body P) �
 all_installed {P = P} whole rest h k none l =
     let now = subst (λ (xs : List (Change P)). Installs whole xs h k) none l in
     now.reaches
+
+-- the changes that are left after the first, where there is one
+pub first_installed : {P : Type 0} (whole rest : List (Change P)) (first : Option (Change P)) (h k : Body P)
+    → Installs whole (first_of first ++ rest) h k → CanMakeFirst first k
+first_installed whole rest None h k l = tt
+first_installed whole rest (Some c) h k l = next_change whole (c ∷ rest) c rest h k refl l
+
+pub taken_installed : {P : Type 0} (whole rest : List (Change P)) (taken : Option ℕ) (h k : Body P)
+    → Installs whole (taken_of taken ++ rest) h k → IfSome taken (λ place. CanChange {P = P} (TakeFront place) k)
+taken_installed whole rest None h k l = tt
+taken_installed whole rest (Some place) h k l = next_change whole (TakeFront place ∷ rest) (TakeFront place) rest h k refl l
+
+-- before the first change
+pub none_installed : {P : Type 0} (whole rest : List (Change P)) (h : Body P) → rest ≡ whole → Agrees h
+    → CanApplyAll (image h) whole → length whole ≤ h.ready.spare → HaveRoom (length whole) h whole
+    → Installs whole rest h h
+none_installed {P = P} whole rest h is agrees can ready room =
+    subst (λ (xs : List (Change P)). Installs whole xs h h) (sym is)
+    (record { reaches = refl; charts = refl; can = can; ready = ready; room = room; agrees = agrees })

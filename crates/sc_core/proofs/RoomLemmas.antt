@@ -13,7 +13,8 @@ use Rattle.sc_core.proofs.FamilyLemmas.{family_same}
 use Rattle.sc_core.proofs.SetLemmas.{map_long}
 use Rattle.sc_types.specs.declared.host.SessionImage.{SessionImage}
 use Rattle.sc_core.specs.Bodies.{Agrees, Keeps, cued, image, inviter, queue_room, session_image}
-use Rattle.sc_core.specs.Installing.{AreRoomy, HasRoom, HasTarget, HaveRoom, HaveRoomOf, HaveTargets, IsMadeFor, IsRoomy, new_rooms, queue_rooms, room_at, rooms_ahead}
+use Rattle.sc_core.specs.ChangeLists.{counted_of, first_of, listed, taken_of}
+use Rattle.sc_core.specs.Installing.{AreMadeFor, AreRoomy, HasRoom, HasTarget, HaveRoom, HaveRoomOf, HaveTargets, IsMadeFor, IsRoomy, new_rooms, queue_rooms, room_at, rooms_ahead}
 use Rattle.sc_core.specs.declared.body.Body.{Body}
 use Rattle.sc_core.specs.declared.change.Change.{Change}
 use Rattle.sc_core.specs.declared.change.Change.TheVariants.{Count, Advance, Install, Start, Bear, PutState, TakeFront, Queue, Tell, Flag, CutOff, DropInvoke, End, Delay, Undo, Lose}
@@ -94,7 +95,7 @@ keeps_on h k m first second = record {
   image = second.image ∙ first.image;
 }
 
-same_length : {P : Type 0} (h k : Body P) → Keeps h k → length k.sessions.items ≡ length h.sessions.items
+pub same_length : {P : Type 0} (h k : Body P) → Keeps h k → length k.sessions.items ≡ length h.sessions.items
 same_length h k keeps =
     let long = ap (λ (g : HostImage). length g.sessions) keeps.image in
     omega (arith, long, map_long session_image h.sessions.items, map_long session_image k.sessions.items)
@@ -119,9 +120,9 @@ made_kept n h k (Delay send) l r = omega (arith, l.timers, r)
 made_kept n h k (Undo session id) l r = tt
 made_kept n h k Lose l r = tt
 
-abbrev AreMadeFor : {P : Type 0} → ℕ → Body P → List (Change P) → Type 0
-AreMadeFor n h [] = Unit {0}
-AreMadeFor n h (c ∷ cs) = IsMadeFor n h c × AreMadeFor n h cs
+all_kept : {P : Type 0} (n : ℕ) (h k : Body P) (cs : List (Change P)) → Keeps h k → AreMadeFor n h cs → AreMadeFor n k cs
+all_kept n h k [] l made = tt
+all_kept n h k (c ∷ cs) l made = (made_kept n h k c l made.0, all_kept n h k cs l made.1)
 
 pub on_ok : {T E : Type 0} (r : Result T E) (A B : Type 0) → OnOk r A → (A → B) → OnOk r B
 on_ok (Ok x) A B a f = f a
@@ -129,10 +130,8 @@ on_ok (Err e) A B a f = tt
 
 -- what the loop over the changes keeps
 pub record MakesRoom {P : Type 0} (whole : List (Change P)) (n place : ℕ) (h k : Body P) : Type 0 where
-  pub count : n ≡ length whole
   pub keeps : Keeps h k
   pub charts : k.charts.items ≡ h.charts.items
-  pub ready : n ≤ k.ready.spare
   pub rest : (m : Body P) → Keeps k m → AreMadeFor n m (drop place whole) → AreMadeFor n m whole
   pub targets : HaveTargets (length h.sessions.items) (drop place whole)
 
@@ -161,10 +160,8 @@ pub more_room : {P : Type 0} (whole : List (Change P)) (n place : ℕ) (h k m : 
 more_room {P = P} whole n place h k m c at l keeps charts room =
     let is = drop_at whole place c at in
     record {
-      count = l.count;
       keeps = keeps_on h k m l.keeps keeps;
       charts = charts ∙ l.charts;
-      ready = omega (arith, l.ready, keeps.ready);
       rest = λ b kept have. l.rest b (keeps_on k m b keeps kept)
           (subst (AreMadeFor n b) (sym is) (made_kept n m b c kept room, have));
       targets = (subst (HaveTargets (length h.sessions.items)) is l.targets).1;
@@ -243,16 +240,45 @@ rooms_of_all n count h rooms [] less made roomy = tt
 rooms_of_all n count h rooms (c ∷ cs) less made roomy =
     (one_room n count h rooms c less made.0 roomy.0, rooms_of_all n count h rooms cs less made.1 roomy.1)
 
+-- room was made for each
+pub all_made : {P : Type 0} (whole : List (Change P)) (n place : ℕ) (h k : Body P) → slice_get whole place ≡ None
+    → MakesRoom whole n place h k → AreMadeFor n k whole
+all_made whole n place h k none l =
+    l.rest k (keeps_same k l.keeps.agrees) (subst (AreMadeFor n k) (sym (drop_past whole place none)) tt)
+
+made_more : {P : Type 0} (n : ℕ) (k : Body P) (cs more : List (Change P)) → AreMadeFor n k cs → AreMadeFor n k more
+    → AreMadeFor n k (cs ++ more)
+made_more n k [] more made rest = rest
+made_more n k (c ∷ cs) more made rest = (made.0, made_more n k cs more made.1 rest)
+
+made_listed : {P : Type 0} (n : ℕ) (k : Body P) (first : Option (Change P)) (taken : Option ℕ) (more : List (Change P))
+    (counted : Bool) → AreMadeFor n k (first_of first) → AreMadeFor n k more
+    → AreMadeFor n k (listed first taken more counted)
+made_listed {P = P} n k first taken more counted one made =
+    made_more n k (first_of first) (taken_of taken ++ (more ++ counted_of counted)) one
+    (made_more n k (taken_of taken) (more ++ counted_of counted) (front taken)
+    (made_more n k more (counted_of counted) made (end counted)))
+  where
+    front : (t : Option ℕ) → AreMadeFor n k (taken_of {P = P} t)
+    front None = tt
+    front (Some place) = (tt, tt)
+
+    end : (b : Bool) → AreMadeFor n k (counted_of {P = P} b)
+    end false = tt
+    end true = (tt, tt)
+
 -- room was made for all
-pub all_room : {P : Type 0} (whole : List (Change P)) (n place : ℕ) (h k : Body P) → slice_get whole place ≡ None
-    → MakesRoom whole n place h k → AreRoomy (length h.sessions.items) whole → HaveRoom (length whole) k whole
-all_room {P = P} whole n place h k none l roomy =
-    let made : AreMadeFor n k whole =
-    l.rest k (keeps_same k l.keeps.agrees) (subst (AreMadeFor n k) (sym (drop_past whole place none)) tt) in
-    let there : AreRoomy (length k.sessions.items) whole =
-    subst (λ m. AreRoomy m whole) (sym (same_length h k l.keeps)) roomy in
-    subst (λ m. HaveRoomOf m k (rooms_ahead k whole) whole) l.count
-    (rooms_of_all n (length whole) k (new_rooms whole) whole (omega (arith, l.count)) made there)
+pub all_room : {P : Type 0} (whole : List (Change P)) (first : Option (Change P)) (taken : Option ℕ)
+    (more : List (Change P)) (counted : Bool) (n : ℕ) (h k m : Body P) → listed first taken more counted ≡ whole
+    → n ≡ length whole → Keeps h k → Keeps k m → AreMadeFor n k (first_of first) → AreMadeFor n m more
+    → AreRoomy (length h.sessions.items) whole → HaveRoom (length whole) m whole
+all_room {P = P} whole first taken more counted n h k m is count keeps kept one rest roomy =
+    let made : AreMadeFor n m whole =
+    subst (AreMadeFor n m) is (made_listed n m first taken more counted (all_kept n k m (first_of first) kept one) rest) in
+    let there : AreRoomy (length m.sessions.items) whole =
+    subst (λ i. AreRoomy i whole) (sym (same_length h m (keeps_on h k m keeps kept))) roomy in
+    subst (λ i. HaveRoomOf i m (rooms_ahead m whole) whole) count
+    (rooms_of_all n (length whole) m (new_rooms whole) whole (omega (arith, count)) made there)
 
 pub keeps_ready : {P : Type 0} (h : Body P) (ready : PlacesOf) → Agrees h → ready.places ≡ h.ready.places
     → h.ready.spare ≤ ready.spare → Keeps h (record h { ready = ready })
@@ -273,14 +299,36 @@ keeps_ready h ready agrees places spare = record {
   image = refl;
 }
 
-pub first_room : {P : Type 0} (whole : List (Change P)) (n : ℕ) (h : Body P) (ready : PlacesOf) → Agrees h
-    → n ≡ length whole → ready.places ≡ h.ready.places → h.ready.spare ≤ ready.spare → n ≤ ready.spare
-    → HaveTargets (length h.sessions.items) whole → MakesRoom whole n 0 h (record h { ready = ready })
-first_room whole n h ready agrees count places spare room targets = record {
-  count = count;
-  keeps = keeps_ready h ready agrees places spare;
+pub first_room : {P : Type 0} (whole : List (Change P)) (n : ℕ) (h : Body P) → Agrees h
+    → HaveTargets (length h.sessions.items) whole → MakesRoom whole n 0 h h
+first_room whole n h agrees targets = record {
+  keeps = keeps_same h agrees;
   charts = refl;
-  ready = room;
   rest = λ m kept have. have;
   targets = targets;
 }
+
+-- what is listed has a target where the whole has
+pub first_targets : {P : Type 0} (n : ℕ) (whole : List (Change P)) (first : Option (Change P)) (rest : List (Change P))
+    → first_of first ++ rest ≡ whole → HaveTargets n whole → HaveTargets n (first_of first)
+first_targets {P = P} n whole first rest is all = by first (subst (HaveTargets n) (sym is) all)
+  where
+    by : (o : Option (Change P)) → HaveTargets n (first_of o ++ rest) → HaveTargets n (first_of o)
+    by None all = tt
+    by (Some c) all = (all.0, tt)
+
+back_targets : {P : Type 0} (n : ℕ) (cs rest : List (Change P)) → HaveTargets n (cs ++ rest) → HaveTargets n rest
+back_targets n [] rest all = all
+back_targets n (c ∷ cs) rest all = back_targets n cs rest all.1
+
+front_targets : {P : Type 0} (n : ℕ) (cs rest : List (Change P)) → HaveTargets n (cs ++ rest) → HaveTargets n cs
+front_targets n [] rest all = tt
+front_targets n (c ∷ cs) rest all = (all.0, front_targets n cs rest all.1)
+
+pub more_targets : {P : Type 0} (n : ℕ) (whole : List (Change P)) (first : Option (Change P)) (taken : Option ℕ)
+    (more : List (Change P)) (counted : Bool) → listed first taken more counted ≡ whole → HaveTargets n whole
+    → HaveTargets n more
+more_targets n whole first taken more counted is all =
+    front_targets n more (counted_of counted)
+    (back_targets n (taken_of taken) (more ++ counted_of counted)
+    (back_targets n (first_of first) (taken_of taken ++ (more ++ counted_of counted)) (subst (HaveTargets n) (sym is) all)))

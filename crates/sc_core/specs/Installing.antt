@@ -117,6 +117,10 @@ abbrev pub IsMadeFor : {P : Type 0} → ℕ → Body P → Change P → Type 0
 IsMadeFor n h (Queue place e) = place < length h.sessions.items → n ≤ queue_room h place
 IsMadeFor n h c = HasRoom n h [] c
 
+abbrev pub AreMadeFor : {P : Type 0} → ℕ → Body P → List (Change P) → Type 0
+AreMadeFor n h [] = Unit {0}
+AreMadeFor n h (c ∷ cs) = IsMadeFor n h c × AreMadeFor n h cs
+
 -- what a change puts something into is there
 abbrev pub HasTarget : {P : Type 0} → ℕ → Change P → Type 0
 HasTarget sessions (Bear invoker name session) = invoker < sessions

@@ -3,6 +3,7 @@ pub mod Aims
 pub mod Births
 pub mod Bodies
 pub mod Changes
+pub mod ChangeLists
 pub mod Closing
 pub mod Commands
 pub mod Counting
@@ -15,6 +16,7 @@ pub mod Histories
 pub mod Hosts
 pub mod Inputs
 pub mod Keeping
+pub mod Makings
 pub mod Installing
 pub mod Newborns
 pub mod Parting

@@ -1,8 +1,14 @@
-ghost use Rattle.std.specs.Prelude.{◌≡◌, ◌≤◌, length};
+ghost use Rattle.std.specs.Prelude.{◌≡◌, ◌≤◌, ◌++◌, IfSome, List, length};
 ghost use Rattle.sc_core.specs.Bodies.{Agrees, Makes, image};
+ghost use Rattle.sc_core.specs.ChangeLists.{counted_of, first_of, taken_of};
+ghost use Rattle.sc_core.specs.Makings.{CanChange, CanMakeFirst, Installs};
+ghost use Rattle.sc_core.specs.declared.body.Body.{Body as BodyOf};
+ghost use Rattle.sc_core.specs.declared.change.Change.{Change as ChangeOf};
+ghost use Rattle.sc_core.specs.declared.change.Change.TheVariants.{TakeFront};
 ghost use Rattle.sc_core.specs.Installing.{CanApply, CanApplyAll, HasRoom, HaveRoom, IsNewest, apply, charts_after, charts_with, installed, queue_rooms};
 
 use crate::body::{Body, InstalledChart};
+use crate::change_list::ChangeList;
 use crate::session::Session;
 use sc_base::{Boxed, Queue, Shared, SharedBytes, Word};
 use sc_types::{Event, SessionState, TimerImage};
@@ -138,8 +144,53 @@ impl<P: Drop> Body<P> {
         }
     }
 
+    /// Makes the first change of a list, where there is one.
+    #[inline(always)]
+    fn install_first(&mut self, first: Option<Change<P>>)
+        requires agrees { Agrees self.old }
+        requires can { CanMakeFirst first self.old }
+        ensures installs { (whole rest : List (ChangeOf P)) (h : BodyOf P)
+            → Installs whole (first_of first ++ rest) h self.old → Installs whole rest h self.new }
+    {
+        if let Some(change) = first {
+            self.change(change);
+        }
+    }
+
+    /// Takes the front of the external queue of the session at a place, where there is one.
+    #[inline(always)]
+    fn install_taken(&mut self, taken: Option<usize>)
+        requires agrees { Agrees self.old }
+        requires can { IfSome taken (λ place. CanChange {P = P} (TakeFront place) self.old) }
+        ensures installs { (whole rest : List (ChangeOf P)) (h : BodyOf P)
+            → Installs whole (taken_of taken ++ rest) h self.old → Installs whole rest h self.new }
+    {
+        if let Some(place) = taken {
+            self.take_front(place);
+        }
+    }
+
+    /// Makes these changes in order, and counts the command after them.
+    #[inline(always)]
+    fn install_more(&mut self, more: &mut Queue<Change<P>>, counted: bool)
+        requires agrees { Agrees self.old }
+        requires can { CanApplyAll (image self.old) (more.old ++ counted_of counted) }
+        requires ready { length (more.old ++ counted_of {P = P} counted) ≤ self.old.ready.spare }
+        requires room { HaveRoom (length (more.old ++ counted_of {P = P} counted)) self.old (more.old ++ counted_of counted) }
+        ensures agrees { Agrees self.new }
+        ensures image { image self.new ≡ installed (more.old ++ counted_of counted) (image self.old) }
+        ensures charts { self.new.charts.items ≡ charts_after (more.old ++ counted_of counted) self.old.charts.items }
+    {
+        while let Some(change) = more.pop_front() {
+            self.change_any(change);
+        }
+        if counted {
+            self.count();
+        }
+    }
+
     /// Makes the changes in order, for which the room was made before.
-    pub(crate) fn install(&mut self, changes: &mut Queue<Change<P>>)
+    pub(crate) fn install(&mut self, changes: &mut ChangeList<P>)
         requires agrees { Agrees self.old }
         requires can { CanApplyAll (image self.old) changes.old }
         requires ready { length changes.old ≤ self.old.ready.spare }
@@ -148,8 +199,8 @@ impl<P: Drop> Body<P> {
         ensures image { image self.new ≡ installed changes.old (image self.old) }
         ensures charts { self.new.charts.items ≡ charts_after changes.old self.old.charts.items }
     {
-        while let Some(change) = changes.pop_front() {
-            self.change(change);
-        }
+        self.install_first(changes.first.take());
+        self.install_taken(changes.taken.take());
+        self.install_more(&mut changes.more, changes.counted);
     }
 }

@@ -99,6 +99,7 @@ impl<E: Engine> HostState<E> {
         let prepared = draft_step(self.alloc, e, &mut self.body, session, Some(turned))?;
         // A length fits a usize, so the numbers of events cannot run out in one command.
         let _count = prepared.sent.len();
-        self.with_room(prepared)
+        self.make_room(&prepared)?;
+        Ok(prepared)
     }
 }

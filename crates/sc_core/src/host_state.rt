@@ -96,16 +96,12 @@ impl<E: Engine> HostState<E> {
 
     /// Makes the room that prepared changes need. Out of memory, the host machine is as before.
     #[inline(always)]
-    pub(crate) fn with_room(
-        &mut self,
-        prepared: Prepared<E::Plan>,
-    ) -> Result<Prepared<E::Plan>, NoMemory>
-        requires can { CanMake E.chart_of self.old.image prepared.changes }
+    pub(crate) fn make_room(&mut self, prepared: &Prepared<E::Plan>) -> Result<(), NoMemory>
+        requires can { CanMake E.chart_of self.old.image prepared.now.changes }
         ensures image { self.new.image ≡ self.old.image }
-        ensures prepared { IfOk result (λ p. p ≡ prepared) }
-        ensures can { OnOk result (CanInstall E.chart_of self.new prepared.changes) }
+        ensures can { OnOk result (CanInstall E.chart_of self.new prepared.now.changes) }
     {
         self.body.make_room(&prepared.changes)?;
-        Ok(prepared)
+        Ok(())
     }
 }

@@ -7,6 +7,7 @@ mod additions;
 mod aims;
 mod body;
 mod change;
+mod change_list;
 mod changes;
 mod charts;
 mod children;

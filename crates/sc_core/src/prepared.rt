@@ -1,14 +1,16 @@
 ghost use Rattle.std.specs.Prelude.{◌≡◌, [], ◌∷◌, IfOk};
+ghost use Rattle.sc_core.specs.Accepted.{is_accepted};
 
 use crate::change::Change;
-use sc_base::{Boxed, BoxedSequence, NoMemory, Plain, Queue, Sequence};
+use crate::change_list::ChangeList;
+use sc_base::{Boxed, BoxedSequence, NoMemory, Plain, Sequence};
 use sc_types::{Delivery, How, LogLine, Refusal, Reply};
 use std::alloc::Global;
 
 /// A command's answer, and the changes that it makes of the host.
 #[derive(Drop)]
 pub struct Prepared<P> {
-    pub(crate) changes: Queue<Change<P>>,
+    pub(crate) changes: ChangeList<P>,
     pub reply: Reply,
     pub logs: BoxedSequence<LogLine>,
     pub sent: Sequence<Delivery>,
@@ -22,6 +24,13 @@ pub(crate) fn ended(alloc: Global, how: &How) -> Result<Refusal, NoMemory>
 }
 
 impl<P: Drop> Prepared<P> {
+    /// Whether the host accepts the command.
+    pub fn is_accepted(&self) -> bool
+        ensures { result ≡ is_accepted self.now.reply }
+    {
+        !matches!(&self.reply, Reply::Refused(_))
+    }
+
     /// A refusal changes nothing.
     pub(crate) fn refused(alloc: Global, why: Refusal) -> Prepared<P>
         ensures changes { result.changes ≡ [] }
@@ -30,7 +39,7 @@ impl<P: Drop> Prepared<P> {
         ensures sent { result.sent ≡ [] }
     {
         Prepared {
-            changes: Queue::new(alloc),
+            changes: ChangeList::none(alloc),
             reply: Reply::Refused(why),
             logs: BoxedSequence::empty(),
             sent: Sequence::new(alloc),
@@ -49,11 +58,8 @@ impl<P: Drop> Prepared<P> {
         ensures logs { IfOk result (λ p. p.logs ≡ []) }
         ensures sent { IfOk result (λ p. p.sent ≡ []) }
     {
-        let mut changes = Queue::with_room(alloc, 2)?;
-        changes.push(change)?;
-        changes.push(Change::Count)?;
         Ok(Prepared {
-            changes,
+            changes: ChangeList::one(alloc, change),
             reply,
             logs: BoxedSequence::empty(),
             sent: Sequence::new(alloc),

@@ -1,9 +1,11 @@
 ghost use Rattle.std.specs.Prelude.{◌≡◌, ◌≤◌, ◌<◌, length, OnOk};
 ghost use Rattle.sc_core.specs.Bodies.{Agrees, Keeps, children_room, failure_room, image, queue_room};
-ghost use Rattle.sc_core.specs.Installing.{AreRoomy, IsMadeFor, HasTarget, HaveRoom, HaveTargets};
+ghost use Rattle.sc_core.specs.ChangeLists.{first_of};
+ghost use Rattle.sc_core.specs.Installing.{AreMadeFor, AreRoomy, IsMadeFor, HasTarget, HaveRoom, HaveTargets};
 
 use crate::body::Body;
 use crate::change::Change;
+use crate::change_list::ChangeList;
 use sc_base::{NoMemory, Queue};
 
 impl<P: Drop> Body<P> {
@@ -75,9 +77,42 @@ impl<P: Drop> Body<P> {
         }
     }
 
+    /// The same of the first change, where there is one.
+    #[inline(always)]
+    fn make_room_first(&mut self, first: &Option<Change<P>>, count: usize) -> Result<(), NoMemory>
+        requires agrees { Agrees self.old }
+        requires targets { HaveTargets (length self.old.sessions.items) (first_of first.now) }
+        ensures keeps { Keeps self.old self.new }
+        ensures charts { self.new.charts.items ≡ self.old.charts.items }
+        ensures ok { OnOk result (AreMadeFor count self.new (first_of first.now)) }
+    {
+        match first {
+            Some(change) => self.make_room_for(change, count),
+            None => Ok(()),
+        }
+    }
+
+    /// The same of each of these changes.
+    #[inline(always)]
+    fn make_room_more(&mut self, more: &Queue<Change<P>>, count: usize) -> Result<(), NoMemory>
+        requires agrees { Agrees self.old }
+        requires targets { HaveTargets (length self.old.sessions.items) more.now }
+        ensures keeps { Keeps self.old self.new }
+        ensures charts { self.new.charts.items ≡ self.old.charts.items }
+        ensures ok { OnOk result (AreMadeFor count self.new more.now) }
+    {
+        let _end = more.len();
+        let mut place = 0;
+        while let Some(change) = more.get(place) {
+            self.make_room_for(change, count)?;
+            place += 1;
+        }
+        Ok(())
+    }
+
     /// Makes the room that a list of changes needs, so that they can be made without memory.
     #[inline(always)]
-    pub(crate) fn make_room(&mut self, changes: &Queue<Change<P>>) -> Result<(), NoMemory>
+    pub(crate) fn make_room(&mut self, changes: &ChangeList<P>) -> Result<(), NoMemory>
         requires agrees { Agrees self.old }
         requires targets { HaveTargets (length self.old.sessions.items) changes.now }
         requires roomy { AreRoomy (length self.old.sessions.items) changes.now }
@@ -86,13 +121,9 @@ impl<P: Drop> Body<P> {
         ensures ready { OnOk result (length changes.now ≤ self.new.ready.spare) }
         ensures room { OnOk result (HaveRoom (length changes.now) self.new changes.now) }
     {
-        let count = changes.len();
+        let count = changes.count()?;
         self.ready.reserve(count)?;
-        let mut place = 0;
-        while let Some(change) = changes.get(place) {
-            self.make_room_for(change, count)?;
-            place += 1;
-        }
-        Ok(())
+        self.make_room_first(&changes.first, count)?;
+        self.make_room_more(&changes.more, count)
     }
 }

@@ -1,56 +1,29 @@
-ghost use Rattle.std.specs.Prelude.{◌≡◌, ◌+◌, ◌^◌, ◌<◌, ◌≤◌, ◌++◌, [], ◌∷◌, Some, List, IfOk, OnOk, length, option_map, slice_get};
+ghost use Rattle.std.specs.Prelude.{◌≡◌, ◌+◌, ◌^◌, ◌<◌, ◌≤◌, Some, IfOk, length, option_map, slice_get};
 ghost use Rattle.sc_core.specs.Bodies.{Agrees, image};
 ghost use Rattle.sc_core.specs.Commands.{step_turn};
 ghost use Rattle.sc_core.specs.Deliveries.{deliver_all};
 ghost use Rattle.sc_core.specs.Drafts.{AreNumbered, DraftsAll, IsBase, stepper};
 ghost use Rattle.sc_core.specs.Preparing.{InstallNone, Prepares};
-ghost use Rattle.sc_core.specs.Stepping.{put_changes};
 ghost use Rattle.sc_types.specs.declared.host.HostImage.{HostImage};
 ghost use Rattle.sc_types.specs.declared.host.SessionImage.{SessionImage};
 
 use crate::body::Body;
-use crate::change::Change;
+use crate::change_list::ChangeList;
 use crate::cues::name_of;
 use crate::draft::Draft;
 use crate::newborns::with_rooms;
 use crate::prepared::Prepared;
-use sc_base::{Boxed, BoxedSequence, NoMemory, Queue, Sequence};
+use sc_base::{BoxedSequence, NoMemory, Sequence};
 use sc_law::TurnResult;
 use sc_types::{Cue, Effect, Reply, SessionState};
 use std::alloc::Global;
 
-/// The changes by which a turn is put in: the state after it, and an external event leaves its queue.
-fn put_changes<P: Drop>(
-    alloc: Global,
-    place: usize,
-    cue: &Cue,
-    after: Boxed<SessionState>,
-) -> Result<Queue<Change<P>>, NoMemory>
-    ensures { IfOk result (λ cs. cs ≡ put_changes place cue.now after) }
+/// How many changes a step makes at most, where its effects and its end make so many. More than can be counted are out
+/// of memory.
+fn most_changes(more: usize) -> Result<usize, NoMemory>
+    ensures { IfOk result (λ n. n ≡ more + 3) }
 {
-    // A step most often makes no change beside the two here and the count.
-    let mut changes = Queue::with_room(alloc, 3)?;
-    changes.push(Change::PutState {
-        place,
-        state: after,
-    })?;
-    if let Cue::External(_) = cue {
-        changes.push(Change::TakeFront { place })?;
-    }
-    Ok(changes)
-}
-
-/// Puts changes behind others.
-fn append<P: Drop>(
-    changes: &mut Queue<Change<P>>,
-    mut more: Queue<Change<P>>,
-) -> Result<(), NoMemory>
-    ensures { OnOk result (changes.new ≡ changes.old ++ more) }
-{
-    while let Some(change) = more.pop_front() {
-        changes.push(change)?;
-    }
-    Ok(())
+    more.checked_add(3).ok_or(NoMemory)
 }
 
 impl<P: Drop> Body<P> {
@@ -102,15 +75,10 @@ impl<P: Drop> Body<P> {
         let _count = effects.len();
         let mut draft = self.draft_effects(alloc, place, after.get(), effects)?;
         self.draft_end(alloc, &mut draft, place, after.get())?;
-        let mut changes = put_changes(alloc, place, cue, after)?;
-        // A step makes three changes beside those of its effects and of its end, and no more than a usize counts.
-        let count = draft.changes.len().saturating_add(3);
+        let count = most_changes(draft.changes.len())?;
         let more = with_rooms(alloc, draft.changes, self.sessions.len(), count)?;
-        append(&mut changes, more)?;
-        changes.push(Change::Count)?;
-        let _all = changes.len();
         Ok(Prepared {
-            changes,
+            changes: ChangeList::of_step(place, cue, after, more),
             reply: Reply::Stepped(name_of(cue)),
             logs: BoxedSequence::new(alloc, logs)?,
             sent: draft.sent,

@@ -11,6 +11,7 @@ use crate::additions::{numbered, with_invokeid};
 use crate::aims::{Aim, invokeid_for};
 use crate::body::Body;
 use crate::change::Change;
+use crate::change_list::ChangeList;
 use crate::failures::communication_error;
 use crate::prepared::Prepared;
 use crate::session::is_running;
@@ -107,15 +108,14 @@ impl<P: Drop> Draft<P> {
     }
 
     /// The command is counted.
-    fn finish(mut self, alloc: Global) -> Result<Prepared<P>, NoMemory>
+    fn finish(self, alloc: Global) -> Result<Prepared<P>, NoMemory>
         ensures changes { IfOk result (λ p. p.changes ≡ self.changes ++ Change.Count ∷ []) }
         ensures reply { IfOk result (λ p. p.reply ≡ Reply.Ticked (length self.sent)) }
         ensures logs { IfOk result (λ p. p.logs ≡ []) }
         ensures sent { IfOk result (λ p. p.sent ≡ self.sent) }
     {
-        self.changes.push(Change::Count)?;
         Ok(Prepared {
-            changes: self.changes,
+            changes: ChangeList::all(self.changes),
             reply: Reply::Ticked(self.sent.len() as u64),
             logs: BoxedSequence::empty(),
             sent: self.sent,

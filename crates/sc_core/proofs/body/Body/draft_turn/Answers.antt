@@ -1,4 +1,4 @@
-use Rattle.std.proofs.Common.{List, append_assoc, ◌≡◌, ◌∷◌, [], ◌++◌, ◌≤◌, option_map, length, refl, arith, sym, subst, ap, ◌∙◌}
+use Rattle.std.proofs.Common.{List, ◌≡◌, ◌∷◌, [], ◌++◌, ◌≤◌, option_map, length, refl, arith, sym, subst, ap, ◌∙◌}
 use Rattle.std.proofs.lemmas.Option.{same_Some, slice_get_within}
 use Rattle.sc_types.specs.declared.command.Reply.TheVariants.{Stepped}
 use Rattle.std.specs.List.{AllByRecursion}
@@ -49,27 +49,22 @@ returns-clause-step g c = λ s there.
     let first : c.len-2.result ≡ length before.sessions =
     c.len-2.ensures.items ∙ sym (map_long session_image c.args.self.now.sessions.items) in
     let roomy = subst (λ n. (h : HostImage) → length h.sessions ≡ n → CanApplyAll h e.changes
-    → AllByRecursion (IsRoomy n c.saturating_add-count.result (new_rooms c.in_ok-more.more)) c.in_ok-more.more) first
+    → AllByRecursion (IsRoomy n c.in_ok-count.count (new_rooms c.in_ok-more.more)) c.in_ok-more.more) first
     c.in_ok-more.ensures.roomy in
     let more = c.in_ok-more.more in
-    let changes = c.in_ok-push.ensures.ok ∙ ap (λ cs. cs ++ Count ∷ []) (c.in_ok-append.ensures
-    ∙ ap (λ cs. cs ++ more) (c.in_ok-changes.ensures ∙ ap (λ x. put_changes place cue x.0) parts))
-    ∙ append_assoc (put_changes place cue t.after) more (Count ∷ []) in
-    let enough : length (step_changes place cue t.after more) ≤ c.saturating_add-count.result =
+    let changes = c.of_step.ensures ∙ ap (λ x. put_changes place cue x.0 ++ (more ++ Count ∷ [])) parts in
+    let enough : length (step_changes place cue t.after more) ≤ c.in_ok-count.count =
     omega (
       arith,
       step_long place cue t.after e.changes more c.in_ok-more.ensures.alike,
-      ap length changes,
       c.len.ensures,
-      c.saturating_add-count.ensures,
-      c.len-all.ensures,
-      c.len-all.type_inv,
+      c.in_ok-count.ensures,
     ) in
-    let whole = turn_whole before place s cue t d e more (length (step_changes place cue t.after more)) c.saturating_add-count.result
+    let whole = turn_whole before place s cue t d e more (length (step_changes place cue t.after more)) c.in_ok-count.count
     there drafted ends c.in_ok-more.ensures.alike enough roomy in
     step_prepared before place s cue t c.in_ok-more.more _ _ there named c.requires.commands refl
     (turn_counted before place s cue t d drafted) whole
-    (c.changes-3.view_is ∙ changes) (ap Stepped c.name_of.ensures) (c.in_ok-new.ensures ∙ ap (λ x. x.2) parts) (turn_sent before place s cue t d e drafted ends)
+    (changes) (ap Stepped c.name_of.ensures) (c.in_ok-new.ensures ∙ ap (λ x. x.2) parts) (turn_sent before place s cue t d e drafted ends)
 
 pub returns-clause-none : goal.returns-clause-none
 returns-clause-none g c = λ chart_of.
@@ -98,22 +93,17 @@ returns-clause-none g c = λ chart_of.
     let first : c.len-2.result ≡ length before.sessions =
     c.len-2.ensures.items ∙ sym (map_long session_image c.args.self.now.sessions.items) in
     let roomy = subst (λ n. (h : HostImage) → length h.sessions ≡ n → CanApplyAll h e.changes
-    → AllByRecursion (IsRoomy n c.saturating_add-count.result (new_rooms c.in_ok-more.more)) c.in_ok-more.more) first
+    → AllByRecursion (IsRoomy n c.in_ok-count.count (new_rooms c.in_ok-more.more)) c.in_ok-more.more) first
     c.in_ok-more.ensures.roomy in
     let more = c.in_ok-more.more in
-    let changes = c.in_ok-push.ensures.ok ∙ ap (λ cs. cs ++ Count ∷ []) (c.in_ok-append.ensures
-    ∙ ap (λ cs. cs ++ more) (c.in_ok-changes.ensures ∙ ap (λ x. put_changes place cue x.0) parts))
-    ∙ append_assoc (put_changes place cue t.after) more (Count ∷ []) in
-    let enough : length (step_changes place cue t.after more) ≤ c.saturating_add-count.result =
+    let changes = c.of_step.ensures ∙ ap (λ x. put_changes place cue x.0 ++ (more ++ Count ∷ [])) parts in
+    let enough : length (step_changes place cue t.after more) ≤ c.in_ok-count.count =
     omega (
       arith,
       step_long place cue t.after e.changes more c.in_ok-more.ensures.alike,
-      ap length changes,
       c.len.ensures,
-      c.saturating_add-count.ensures,
-      c.len-all.ensures,
-      c.len-all.type_inv,
+      c.in_ok-count.ensures,
     ) in
-    let whole = turn_whole before place s cue t d e more (length (step_changes place cue t.after more)) c.saturating_add-count.result
+    let whole = turn_whole before place s cue t d e more (length (step_changes place cue t.after more)) c.in_ok-count.count
     there drafted ends c.in_ok-more.ensures.alike enough roomy in
-    subst (ArePlanned chart_of) (sym (c.changes-3.view_is ∙ changes)) (step_none place cue t.after c.in_ok-more.more whole.none chart_of)
+    subst (ArePlanned chart_of) (sym (changes)) (step_none place cue t.after c.in_ok-more.more whole.none chart_of)

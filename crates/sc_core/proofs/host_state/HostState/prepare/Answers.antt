@@ -4,12 +4,11 @@ use Rattle.sc_core.specs.Bodies.{image}
 use Rattle.sc_core.specs.Commands.{answer}
 use Rattle.sc_core.specs.HostStates.{CanMake, HostOf}
 use Rattle.sc_core.specs.Preparing.{Prepares}
-use Rattle.sc_core.proofs.DraftLemmas.{each_ok}
 use Rattle.sc_core.proofs.NextLemmas.{prepared_makes}
 use Rattle.sc_core.proofs.host_state.HostState.prepare.Goals as goal
 
-pub with_room-requires-clause-can : goal.with_room-requires-clause-can
-with_room-requires-clause-can g c =
+pub make_room-requires-clause-can : goal.make_room-requires-clause-can
+make_room-requires-clause-can g c =
     let chart_of = g.E.Engine.chart_of in
     let p = c.in_ok-prepared.prepared in
     let h = image c.self.inside.body in
@@ -22,7 +21,5 @@ with_room-requires-clause-can g c =
 pub returns-clause-answer : goal.returns-clause-answer
 returns-clause-answer g c =
     let command = c.args.command.now in
-    let answered = subst (λ (h : HostOf). Prepares (answer h.image command) h.image c.in_ok-prepared.prepared) c.self.view_is
-    c.in_ok-prepared.ensures.answer in
-    each_ok (λ p is. subst (λ q. Prepares (answer c.args.self.now.image command) c.args.self.now.image q) (sym is) answered)
-    c.with_room.result c.with_room.ensures.prepared
+    subst (λ (h : HostOf). Prepares (answer h.image command) h.image c.in_ok-prepared.prepared) c.self.view_is
+    c.in_ok-prepared.ensures.answer

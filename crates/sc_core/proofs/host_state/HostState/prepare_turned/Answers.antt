@@ -6,12 +6,11 @@ use Rattle.sc_core.specs.Commands.{answer, step}
 use Rattle.sc_core.specs.Hosts.{session_named}
 use Rattle.sc_core.specs.HostStates.{CanMake, HostOf}
 use Rattle.sc_core.specs.Preparing.{Prepares}
-use Rattle.sc_core.proofs.DraftLemmas.{each_ok}
 use Rattle.sc_core.proofs.NextLemmas.{answer_step, prepared_makes, prepares_as}
 use Rattle.sc_core.proofs.host_state.HostState.prepare_turned.Goals as goal
 
-pub with_room-requires-clause-can : goal.with_room-requires-clause-can
-with_room-requires-clause-can g c =
+pub make_room-requires-clause-can : goal.make_room-requires-clause-can
+make_room-requires-clause-can g c =
     let chart_of = g.E.Engine.chart_of in
     let p = c.in_ok-prepared.prepared in
     let h = image c.self.inside.body in
@@ -29,7 +28,5 @@ returns-clause-answer g c =
     let h = image c.self.inside.body in
     let name = c.args.session.now in
     let p = c.in_ok-prepared.prepared in
-    let answered = subst (λ (h : HostOf). Prepares (answer h.image (Step name)) h.image p) c.self.view_is
-    (prepares_as h (step h (session_named h name)) (answer h (Step name)) p (answer_step h name) c.in_ok-prepared.ensures.step) in
-    each_ok (λ q is. subst (λ r. Prepares (answer c.args.self.now.image (Step name)) c.args.self.now.image r) (sym is) answered)
-    c.with_room.result c.with_room.ensures.prepared
+    subst (λ (h : HostOf). Prepares (answer h.image (Step name)) h.image p) c.self.view_is
+    (prepares_as h (step h (session_named h name)) (answer h (Step name)) p (answer_step h name) c.in_ok-prepared.ensures.step)
