@@ -1,7 +1,7 @@
 -- What a book is after a command, by the parts that it keeps.
-use Rattle.std.proofs.Common.{◌≡◌, ◌≢◌, ◌∙◌, ◌⊎◌, ℕ, ◌+◌, ◌^◌, ◌-◌, ◌<◌, ◌≤◌, Bool, true, false, Option, None, Some, List, [], ◌∷◌, ◌++◌, length, refl, sym, ap, subst}
+use Rattle.std.proofs.Common.{◌≡◌, ◌≢◌, ◌∙◌, ◌⊎◌, ℕ, ◌+◌, ◌^◌, ◌-◌, ◌<◌, ◌≤◌, true, false, None, Some, List, [], ◌∷◌, ◌++◌, length, refl, sym, ap, subst}
 use Rattle.sc_book.specs.Books.{BookOf, IsBook, first_head}
-use Rattle.sc_book.specs.Drafts.{HasBody, IsBodyOf}
+use Rattle.sc_book.specs.Drafts.{IsBodyOf}
 use Rattle.sc_book.specs.Keeping.{IsSameLog, StoreDoubts, book_of}
 use Rattle.sc_book.specs.declared.doubt.Doubt.{Doubt}
 use Rattle.sc_book.specs.declared.fault.CallFault.{CallFault}
@@ -37,19 +37,13 @@ same_book b c host opened history start moments doubts claims journal = λ k. re
   journal = sym journal k;
 }
 
--- a command with a body is accepted, and one without is not
-pub has_body : (a : Bool) (c : Command) (o : Option (List ℕ)) (body : List ℕ) → HasBody a c o → o ≡ Some body
-    → (a ≡ true) × IsBodyOf c body
-has_body true c (Some x) body has is = let same : x ≡ body = cc in (refl, subst (IsBodyOf c) same has)
-has_body true c None body has is = absurd has
-has_body false c (Some x) body has is = absurd has
-has_body false c None body has is = let none : ◌≡◌ {A = Option (List ℕ)} None (Some body) = is in absurd (cc)
-
-pub no_body : (a : Bool) (c : Command) (o : Option (List ℕ)) → HasBody a c o → o ≡ None → a ≡ false
-no_body true c (Some x) has is = let none : ◌≡◌ {A = Option (List ℕ)} (Some x) None = is in absurd (cc)
-no_body true c None has is = absurd has
-no_body false c (Some x) has is = absurd has
-no_body false c None has is = refl
+-- logs that hold the same
+pub same_on : (one two three : Log) → IsSameLog one two → IsSameLog two three → IsSameLog one three
+same_on one two three first second = record {
+  history = second.history ∙ first.history;
+  moments = second.moments ∙ first.moments;
+  doubts = second.doubts ∙ first.doubts;
+}
 
 module _ {D : Type 0} (tells : Type 0) (leaves : D → DiskOf → Type 0) (left : D → ℕ → DiskOf → Type 0) (moment : D → ℕ)
     (only_now : (disk : D) (d : DiskOf) → moment disk < 2 ^ 64 - 1 → left disk (moment disk) d → leaves disk d) where

@@ -1,6 +1,6 @@
 ghost use Rattle.std.specs.Prelude.{◌≡◌, ◌≢◌, ◌⊎◌, ◌<◌, ◌≤◌, ◌^◌, ◌+◌, ◌++◌, ◌∷◌, [], None, Some, Err, IfOk, OnOk, OnErr, IfErr, List, length};
 ghost use Rattle.sc_book.specs.Books.{IsBook};
-ghost use Rattle.sc_book.specs.Keeping.{HasRoom, IsSameLog, StoreDoubts};
+ghost use Rattle.sc_book.specs.Keeping.{HasRoom, StoreDoubts};
 ghost use Rattle.sc_book.specs.Receipts.{Acknowledges, Doubts, Grows, HasNoRoom, IsAllOrDoubted, IsAllOrMore, IsDuring, IsUnanswered, most_body};
 ghost use Rattle.sc_codec.specs.Bodies.{body_of};
 ghost use Rattle.sc_dev.specs.Causes.{HasCause, Rose};
@@ -11,11 +11,10 @@ ghost use Rattle.sc_types.specs.declared.command.Command.{Command as CommandOf};
 
 use crate::book::Book;
 use crate::doubt::Doubt;
-use crate::draft::{Draft, draft_entry};
+use crate::draft::{confirm, prepare};
 use crate::fault::CallFault;
 use crate::log::Log;
 use crate::receipt::Receipt;
-use sc_base::Bytes;
 use sc_core::Prepared;
 use sc_dev::Disk;
 use sc_journal::{AppendFault, Journal};
@@ -116,37 +115,22 @@ impl<'e, E: Engine, D: Disk> Book<'e, E, D> {
     {
         // Its limit bounds how many commands the host counts.
         let _next = self.journal.next_number();
-        let Draft {
-            mut prepared,
-            receipt,
-            body,
-        } = draft_entry(
-            alloc,
-            self.engine,
-            &mut self.host,
-            &mut self.log,
-            &command,
-            turned,
-        )?;
-        match body {
-            Some(body) => {
-                let command = store(&mut self.journal, &mut self.log, who, command, &body)?;
-                self.host.install(&mut prepared);
-                let moment = self.journal.moment();
-                self.log.enter(entry_of(who, command, prepared), moment);
-                self.log.body = body;
-                Ok(receipt)
+        let mut prepared = prepare(self.engine, &mut self.host, &mut self.log, &command, turned)?;
+        let receipt = confirm(alloc, &mut self.log, &command, &prepared)?;
+        if prepared.is_accepted() {
+            if let Err(fault) = self.journal.append(self.log.body.slice()) {
+                return Err(not_added(&mut self.log, who, command, fault));
             }
-            None => {
-                let moment = self.journal.moment();
-                self.log.enter(entry_of(who, command, prepared), moment);
-                Ok(receipt)
-            }
+            self.host.install(&mut prepared);
         }
+        let moment = self.journal.moment();
+        self.log.enter(entry_of(who, command, prepared), moment);
+        Ok(receipt)
     }
 }
 
 /// The entry of a command that was answered so.
+#[inline(always)]
 fn entry_of<P: Drop>(who: Who, command: Command, prepared: Prepared<P>) -> Entry
     ensures { result ≡ record {
       who = who;
@@ -165,56 +149,29 @@ fn entry_of<P: Drop>(who: Who, command: Command, prepared: Prepared<P>) -> Entry
     }
 }
 
-/// Adds the body of a command to the journal, and hands the command back. Where the disk
-/// fails, the command is kept as one in doubt.
-fn store<D: Disk>(
-    journal: &mut Journal<D>,
-    log: &mut Log,
-    who: Who,
-    command: Command,
-    body: &Bytes,
-) -> Result<Command, CallFault>
-    requires settled { journal.old.doubt ≡ None }
+/// The fault by which the body of a command was not added to the journal. Where the disk failed, the command is kept as
+/// one in doubt.
+#[cold]
+#[inline(never)]
+fn not_added(log: &mut Log, who: Who, command: Command, fault: AppendFault) -> CallFault
     requires room { HasRoom log.old }
-    requires some { 1 ≤ length body.now }
-    requires most { length body.now ≤ 2097152 }
-    ensures command { IfOk result (λ c. c ≡ command) }
-    ensures log { OnOk result (IsSameLog log.old log.new × HasRoom log.new) }
     ensures history { log.new.history.entries ≡ log.old.history.entries }
     ensures moments { log.new.moments.items ≡ log.old.moments.items }
-    ensures doubts { IfErr result (λ fault. StoreDoubts who command log.old log.new fault) }
-    ensures no_memory { result ≢ Err CallFault.NoMemory }
-    ensures full { result ≡ Err CallFault.Full → IsFull journal.old.end journal.old.next (length body.now) }
-    ensures no_room { IsFull journal.old.end journal.old.next (length body.now) → result ≡ Err CallFault.Full }
-    ensures failed { result ≡ Err CallFault.Disk → Rose (D.faults journal.old.disk) (D.faults journal.new.disk) }
-    ensures later { D.faults journal.old.disk ≤ D.faults journal.new.disk }
-    ensures added { OnOk result ((journal.new.next ≡ journal.old.next + 1) × (journal.new.doubt ≡ None)) }
-    ensures not_added { OnErr result ((journal.new.next ≡ journal.old.next)
-        × ((journal.new.doubt ≡ None) ⊎ (journal.new.doubt ≡ Some body.now))) }
-    ensures untouched { result ≡ Err CallFault.Full → journal.new ≡ journal.old }
-    ensures grows { (journal.old.end ≤ journal.new.end) × (journal.old.next ≤ journal.new.next) }
-    ensures time { OnOk result (Rose (D.moment journal.old.disk) (D.moment journal.new.disk)) }
-    ensures elapsed { D.moment journal.old.disk ≤ D.moment journal.new.disk }
-    ensures same { D.identity journal.new.disk ≡ D.identity journal.old.disk }
-    ensures acknowledged { (head : HeadOf) (bodies : _) → Keeps D.tells D.may_leave journal.old head bodies
-        → OnOk result (Keeps D.tells D.may_leave journal.new head (bodies ++ body.now ∷ [])) }
-    ensures kept { (head : HeadOf) (bodies : _) → Keeps D.tells D.may_leave journal.old head bodies
-        → OnErr result (Keeps D.tells D.may_leave journal.new head bodies) }
-    ensures any_moment { (head : HeadOf) (bodies : _) → Keeps D.tells D.may_leave journal.old head bodies
-        → LeavesOnly D.moment D.may_have_left journal.old.disk journal.new.disk
-        (IsWithOrWithout head bodies body.now) }
+    ensures doubts { StoreDoubts who command log.old log.new result }
+    ensures disk { result ≡ CallFault.Disk → fault ≡ AppendFault.Failed }
+    ensures full { result ≡ CallFault.Full → fault ≡ AppendFault.Full }
+    ensures some { result ≢ CallFault.NoMemory }
 {
-    match journal.append(body.slice()) {
-        Ok(()) => Ok(command),
-        Err(AppendFault::Full) => Err(CallFault::Full),
-        Err(AppendFault::Failed) => {
+    match fault {
+        AppendFault::Full => CallFault::Full,
+        AppendFault::Failed => {
             let before = log.history.len();
             log.doubt(Doubt {
                 who,
                 command,
                 before,
             });
-            Err(CallFault::Disk)
+            CallFault::Disk
         }
     }
 }

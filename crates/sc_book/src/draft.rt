@@ -1,9 +1,9 @@
 ghost use Rattle.std.specs.Prelude.{◌≡◌, ◌+◌, ◌^◌, ◌≤◌, true, IfOk, OnOk, length};
 ghost use Rattle.std.specs.List.{list_all};
-ghost use Rattle.sc_book.specs.Drafts.{Confirms, FitsEntry, HasBody, IsBodyOf, IsDraft, has_fitting_values};
+ghost use Rattle.sc_book.specs.Drafts.{Confirms, FitsEntry, IsBodyOf, has_fitting_values};
 ghost use Rattle.sc_book.specs.Keeping.{HasRoom, IsSameLog};
 ghost use Rattle.sc_core.specs.Accepted.{is_accepted};
-ghost use Rattle.sc_core.specs.Commands.{Answer, answer};
+ghost use Rattle.sc_core.specs.Commands.{answer};
 ghost use Rattle.sc_core.specs.HostStates.{CanInstall};
 ghost use Rattle.sc_core.specs.Preparing.{Prepares};
 ghost use Rattle.sc_types.specs.Values.{fits};
@@ -14,30 +14,8 @@ use sc_base::{Bytes, NoMemory, Plain, PlainName};
 use sc_codec::encode_in;
 use sc_core::{HostState, Prepared};
 use sc_law::{Engine, Turned};
-use sc_types::{Command, Reply, Value};
+use sc_types::{Command, Value};
 use std::alloc::Global;
-
-/// A command that is answered, with all memory that its entry takes.
-#[derive(Drop)]
-pub(crate) struct Draft<P> {
-    pub(crate) prepared: Prepared<P>,
-    pub(crate) receipt: Receipt,
-    /// The body for the journal, where the host accepts the command.
-    pub(crate) body: Option<Bytes>,
-}
-
-/// The receipt of what was prepared.
-fn receipt_of<P: Drop>(prepared: &Prepared<P>, number: u64) -> Result<Receipt, NoMemory>
-    ensures { IfOk result (λ r. (a : Answer) → prepared.now.reply ≡ a.reply → prepared.now.logs ≡ a.logs
-        → prepared.now.sent ≡ a.sent → Confirms number a r) }
-{
-    Ok(Receipt {
-        number,
-        reply: prepared.reply.copy()?,
-        logs: prepared.logs.copy()?,
-        sent: prepared.sent.copy()?,
-    })
-}
 
 fn have_fitting_values(pairs: &[(PlainName, Value)]) -> bool
     ensures { result ≡ list_all (λ p. fits p.1) pairs.now }
@@ -67,63 +45,65 @@ fn body_of(memory: Bytes, command: &Command) -> Result<Bytes, NoMemory>
     encode_in(memory, command)
 }
 
-/// The body of a command with this reply: none where it is refused.
-fn journaled(memory: Bytes, command: &Command, reply: &Reply) -> Result<Option<Bytes>, NoMemory>
-    requires entry { is_accepted reply.now ≡ true → FitsEntry command.now }
-    ensures { IfOk result (HasBody (is_accepted reply.now) command.now) }
+/// Makes the body of a command in the memory of the one before it.
+#[inline(always)]
+fn make_body(alloc: Global, log: &mut Log, command: &Command) -> Result<(), NoMemory>
+    requires entry { FitsEntry command.now }
+    ensures log { IsSameLog log.old log.new }
+    ensures room { HasRoom log.old → HasRoom log.new }
+    ensures body { OnOk result (IsBodyOf command.now log.new.body) }
 {
-    match reply {
-        Reply::Refused(_) => Ok(None),
-        _ => Ok(Some(body_of(memory, command)?)),
-    }
+    let memory = std::mem::replace(&mut log.body, Bytes::new(alloc));
+    log.body = body_of(memory, command)?;
+    Ok(())
 }
 
-/// Prepares a command; a step with the turn that a worker computed of it, where there is one.
-fn prepare<E: Engine>(
+/// Makes room for an entry, and prepares its command; a step with the turn that a worker computed of it, where there is
+/// one. The host and the log stay as they are.
+#[inline(always)]
+pub(crate) fn prepare<E: Engine>(
     engine: &E,
     host: &mut HostState<E>,
+    log: &mut Log,
     command: &Command,
     turned: Option<Turned>,
 ) -> Result<Prepared<E::Plan>, NoMemory>
     requires room { host.old.image.commands ≤ 2 ^ 48 }
     ensures image { host.new.image ≡ host.old.image }
+    ensures log { IsSameLog log.old log.new }
+    ensures room { OnOk result (HasRoom log.new) }
     ensures answer { IfOk result (Prepares (answer host.old.image command.now) host.old.image) }
     ensures can { IfOk result (λ p. CanInstall E.chart_of host.new p.changes) }
 {
+    log.reserve()?;
     match (command, turned) {
         (Command::Step { session }, Some(turned)) => host.prepare_turned(engine, session, turned),
         _ => host.prepare(engine, command),
     }
 }
 
-/// Answers a command, and makes all memory of its entry. The host and the log stay as they are.
+/// The receipt of what was prepared of a command. Where the host accepts it, the log gets its body for the journal.
 #[inline(always)]
-pub(crate) fn draft_entry<E: Engine>(
+pub(crate) fn confirm<P: Drop>(
     alloc: Global,
-    engine: &E,
-    host: &mut HostState<E>,
     log: &mut Log,
     command: &Command,
-    turned: Option<Turned>,
-) -> Result<Draft<E::Plan>, NoMemory>
-    requires room { host.old.image.commands ≤ 2 ^ 48 }
-    requires entry { is_accepted (answer host.old.image command.now).reply ≡ true → FitsEntry command.now }
-    ensures image { host.new.image ≡ host.old.image }
+    prepared: &Prepared<P>,
+) -> Result<Receipt, NoMemory>
+    requires entry { is_accepted prepared.now.reply ≡ true → FitsEntry command.now }
     ensures log { IsSameLog log.old log.new }
-    ensures room { OnOk result (HasRoom log.new) }
-    ensures draft { IfOk result (IsDraft host.old.image (answer host.old.image command.now)
-        (length log.old.history.entries + 1) command.now) }
-    ensures can { IfOk result (λ d. CanInstall E.chart_of host.new d.prepared.changes) }
+    ensures room { HasRoom log.old → HasRoom log.new }
+    ensures body { OnOk result (is_accepted prepared.now.reply ≡ true → IsBodyOf command.now log.new.body) }
+    ensures receipt { IfOk result (Confirms (length log.old.history.entries + 1) prepared.now) }
 {
-    log.reserve()?;
-    let prepared = prepare(engine, host, command, turned)?;
     let number = (log.history.len() as u64).checked_add(1).ok_or(NoMemory)?;
-    let receipt = receipt_of(&prepared, number)?;
-    let memory = std::mem::replace(&mut log.body, Bytes::new(alloc));
-    let body = journaled(memory, command, &prepared.reply)?;
-    Ok(Draft {
-        prepared,
-        receipt,
-        body,
+    if prepared.is_accepted() {
+        make_body(alloc, log, command)?;
+    }
+    Ok(Receipt {
+        number,
+        reply: prepared.reply.copy()?,
+        logs: prepared.logs.copy()?,
+        sent: prepared.sent.copy()?,
     })
 }
