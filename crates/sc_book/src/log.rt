@@ -15,7 +15,8 @@ pub(crate) struct Log {
     pub(crate) history: History,
     pub(crate) moments: RoomyQueue<u64>,
     pub(crate) doubts: RoomyQueue<Doubt>,
-    /// The body of the command before where that was accepted, and else nothing. The next one is made in its memory.
+    /// The body of the last command that was accepted, or nothing where memory was out for one since. The next one is
+    /// made in its memory.
     pub(crate) body: Bytes,
 }
 
