@@ -1,12 +1,10 @@
-ghost use Rattle.std.specs.Prelude.{◌≡◌, ◌≢◌, ◌⊎◌, ◌<◌, ◌≤◌, ◌^◌, ◌+◌, ◌++◌, ◌∷◌, [], None, Some, Err, IfOk, OnOk, OnErr, IfErr, List, length};
+ghost use Rattle.std.specs.Prelude.{◌≡◌, ◌≢◌, ◌≤◌, None, Err, IfOk, OnOk, OnErr, IfErr, List, length};
 ghost use Rattle.sc_book.specs.Books.{IsBook};
 ghost use Rattle.sc_book.specs.Keeping.{HasRoom, StoreDoubts};
 ghost use Rattle.sc_book.specs.Receipts.{Acknowledges, Doubts, Grows, HasNoRoom, IsAllOrDoubted, IsAllOrMore, IsDuring, IsUnanswered, most_body};
 ghost use Rattle.sc_codec.specs.Bodies.{body_of};
 ghost use Rattle.sc_dev.specs.Causes.{HasCause, Rose};
-ghost use Rattle.sc_journal.specs.Journals.{IsFull, IsWithOrWithout, Keeps};
 ghost use Rattle.sc_journal.specs.Stops.{LeavesOnly};
-ghost use Rattle.sc_journal.specs.Texts.{HeadOf};
 ghost use Rattle.sc_types.specs.declared.command.Command.{Command as CommandOf};
 
 use crate::book::Book;
@@ -17,7 +15,7 @@ use crate::log::Log;
 use crate::receipt::Receipt;
 use sc_core::Prepared;
 use sc_dev::Disk;
-use sc_journal::{AppendFault, Journal};
+use sc_journal::AppendFault;
 use sc_law::{Engine, Turned};
 use sc_types::{Command, Entry, Who};
 use std::alloc::Global;
