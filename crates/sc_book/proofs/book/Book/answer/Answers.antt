@@ -65,31 +65,6 @@ returns-in_err-receipt-clause-any_moment g c = λ told past is.
     subst (λ (x : BookOf g.row.D.Denot). LeavesOnly M S x.journal.disk i.journal.disk (IsAllOrMore past x c.args.command)) c.self.view_is
     (during_none T L S M laws.only_now past b now told none c.args.command)
 
-pub invariant_of-self-in-Err : goal.invariant_of-self-in-Err
-invariant_of-self-in-Err g c =
-    let laws = g.met.D.Disk g.world.𝓛 g.world.𝓜 g.world.𝓡 ((λ s x. x), (λ x. x), (λ x. x), λ x. x) in
-    let T = g.D.Disk.tells in
-    let L = g.D.Disk.may_leave in
-    let S = g.D.Disk.may_have_left in
-    let M = g.D.Disk.moment in
-    let i = c.self.inside in
-    let b : BookOf g.row.D.Denot = book_of i.host i.opened i.start i.log i.claims i.journal in
-    let none : i.journal.doubt ≡ None = ap (λ (x : BookOf g.row.D.Denot). x.journal.doubt) c.self.view_is ∙ c.requires.settled in
-    let p = c.in_ok-prepared.ensures.answer in
-    let same = same_on i.log c.prepare.new.log c.confirm.new.log c.prepare.ensures.log c.in_ok-receipt.ensures.log in
-    let accepted : is_accepted c.in_ok-prepared.prepared.reply ≡ true = sym c.is_accepted.ensures ∙ c.if-is_accepted.true in
-    let granted : is_accepted (answer i.host.image c.args.command).reply ≡ true = ap is_accepted (sym p.reply) ∙ accepted in
-    let body = subst (IsBodyOf c.args.command) (sym c.slice.ensures) (c.in_ok-receipt.ensures.body accepted) in
-    let a = c.in-Err.ensures in
-    let n = c.not_added.ensures in
-    record {
-      past = c.self.invariant.past;
-      is = not_stored T L S M laws.only_now c.self.invariant.past i.claims i.host c.prepare.new.host i.opened i.start i.log c.confirm.new.log c.not_added.new.log
-          i.journal c.append.new.self c.args.who c.args.command c.slice.result.now c.not_added.result c.self.invariant.is c.prepare.ensures.image same
-          n.history n.moments n.doubts n.some (λ is. a.untouched (ap Err (n.full is))) a.not_added.1.0 a.not_added.1.1 a.elapsed
-          (λ bodies k. a.kept first_head bodies k) (λ bodies k. a.any_moment first_head bodies k) body granted;
-    }
-
 pub returns-in-Err-clause-kept : goal.returns-in-Err-clause-kept
 returns-in-Err-clause-kept g c = λ past is.
     let laws = g.met.D.Disk g.world.𝓛 g.world.𝓜 g.world.𝓡 ((λ s x. x), (λ x. x), (λ x. x), λ x. x) in
@@ -113,6 +88,14 @@ returns-in-Err-clause-kept g c = λ past is.
     n.history n.moments n.doubts n.some (λ is. a.untouched (ap Err (n.full is))) a.not_added.1.0 a.not_added.1.1 a.elapsed
     (λ bodies k. a.kept first_head bodies k) (λ bodies k. a.any_moment first_head bodies k) body granted
 
+pub invariant_of-self-in-Err : goal.invariant_of-self-in-Err
+invariant_of-self-in-Err g c = record {
+  past = c.self.invariant.past;
+  is = returns-in-Err-clause-kept g c c.self.invariant.past
+      (subst (IsBook g.D.Disk.tells g.D.Disk.may_leave g.D.Disk.may_have_left g.D.Disk.moment c.self.invariant.past) c.self.view_is
+      c.self.invariant.is);
+}
+
 pub returns-in-Err-clause-any_moment : goal.returns-in-Err-clause-any_moment
 returns-in-Err-clause-any_moment g c = λ told past is.
     let laws = g.met.D.Disk g.world.𝓛 g.world.𝓜 g.world.𝓡 ((λ s x. x), (λ x. x), (λ x. x), λ x. x) in
@@ -134,72 +117,6 @@ returns-in-Err-clause-any_moment g c = λ told past is.
     subst (λ (x : BookOf g.row.D.Denot). LeavesOnly M S x.journal.disk c.append.new.self.disk (IsAllOrMore past x c.args.command)) c.self.view_is
     (during_store T L S M laws.only_now past b now told c.append.new.self.disk c.slice.result.now c.args.command body.spells granted
     (λ bodies k. a.any_moment first_head bodies k))
-
-pub invariant_of-self-2 : goal.invariant_of-self-2
-invariant_of-self-2 g c =
-    let laws = g.met.D.Disk g.world.𝓛 g.world.𝓜 g.world.𝓡 ((λ s x. x), (λ x. x), (λ x. x), λ x. x) in
-    let T = g.D.Disk.tells in
-    let L = g.D.Disk.may_leave in
-    let S = g.D.Disk.may_have_left in
-    let M = g.D.Disk.moment in
-    let i = c.self.inside in
-    let b : BookOf g.row.D.Denot = book_of i.host i.opened i.start i.log i.claims i.journal in
-    let none : i.journal.doubt ≡ None = ap (λ (x : BookOf g.row.D.Denot). x.journal.doubt) c.self.view_is ∙ c.requires.settled in
-    let p = c.in_ok-prepared.ensures.answer in
-    let same = same_on i.log c.prepare.new.log c.confirm.new.log c.prepare.ensures.log c.in_ok-receipt.ensures.log in
-    let it = c.entry_of.ensures in
-    let e = c.entry_of.result in
-    let command = ap (λ (x : Entry). x.command) it in
-    record {
-      past = c.self.invariant.past;
-      is = elim c.if-is_accepted.branch [
-        | then-is_accepted+in_default w ↦
-            let accepted : is_accepted c.in_ok-prepared.prepared.reply ≡ true = sym c.is_accepted.ensures ∙ w.if-is_accepted.true in
-            let granted : is_accepted (answer i.host.image c.args.command).reply ≡ true = ap is_accepted (sym p.reply) ∙ accepted in
-            let body = subst (IsBodyOf c.args.command) (sym w.slice.ensures) (c.in_ok-receipt.ensures.body accepted) in
-            let a = w.in_default.ensures in
-            let n = w.install.ensures in
-            let host : w.install.new.self.image ≡ (answer i.host.image c.args.command).host =
-            n.image ∙ ap (λ h. installed c.in_ok-prepared.prepared.changes h) c.prepare.ensures.image ∙ p.host in
-            let told : Tells e (answer i.host.image c.args.command) = record {
-              reply = ap (λ (x : Entry). x.reply) it ∙ ap (λ x. x.reply) w.prepared-is ∙ n.reply ∙ p.reply;
-              logs = ap (λ (x : Entry). x.logs) it ∙ ap (λ x. x.logs) w.prepared-is ∙ n.logs ∙ p.logs;
-              sent = ap (λ (x : Entry). x.sent) it ∙ ap (λ x. x.sent) w.prepared-is ∙ n.sent ∙ p.sent;
-            } in
-            let history : c.enter.new.self.history.entries ≡ c.confirm.new.log.history.entries ++ e ∷ [] =
-            c.enter.ensures.history ∙ ap (λ x. x.log.history.entries ++ e ∷ []) w.self-inside-is in
-            let moments : c.enter.new.self.moments.items ≡ c.confirm.new.log.moments.items ++ c.moment-moment.result ∷ [] =
-            c.enter.ensures.moments ∙ ap (λ x. x.log.moments.items ++ c.moment-moment.result ∷ []) w.self-inside-is in
-            let doubts : c.enter.new.self.doubts.items ≡ c.confirm.new.log.doubts.items =
-            c.enter.ensures.doubts ∙ ap (λ x. x.log.doubts.items) w.self-inside-is in
-            let time = c.moment-moment.ensures ∙ ap (λ x. M x.journal.disk) w.self-inside-is in
-            subst (λ x. IsBook T L S M c.self.invariant.past (book_of x.host x.opened x.start c.enter.new.self x.claims x.journal)) (sym w.self-inside-is)
-            (stored T L S M laws.only_now c.self.invariant.past i.claims i.host w.install.new.self i.opened i.start i.log c.confirm.new.log c.confirm.new.log
-            c.enter.new.self i.journal w.append.new.self c.args.command e c.moment-moment.result w.slice.result.now c.self.invariant.is same
-            (record { history = refl; moments = refl; doubts = refl }) host history moments time doubts command told a.added.1.1
-            a.added.1.0 a.elapsed a.time (λ bodies k. a.acknowledged first_head bodies k)
-            (λ bodies k. a.any_moment first_head bodies k) body granted)
-        | else-is_accepted w ↦
-            let denied : is_accepted (answer i.host.image c.args.command).reply ≡ false =
-            ap is_accepted (sym p.reply) ∙ sym c.is_accepted.ensures ∙ w.if-is_accepted.false in
-            let told : Tells e (answer i.host.image c.args.command) = record {
-              reply = ap (λ (x : Entry). x.reply) it ∙ ap (λ x. x.reply) w.prepared-is ∙ p.reply;
-              logs = ap (λ (x : Entry). x.logs) it ∙ ap (λ x. x.logs) w.prepared-is ∙ p.logs;
-              sent = ap (λ (x : Entry). x.sent) it ∙ ap (λ x. x.sent) w.prepared-is ∙ p.sent;
-            } in
-            let history : c.enter.new.self.history.entries ≡ c.confirm.new.log.history.entries ++ e ∷ [] =
-            c.enter.ensures.history ∙ ap (λ x. x.log.history.entries ++ e ∷ []) w.self-inside-is in
-            let moments : c.enter.new.self.moments.items ≡ c.confirm.new.log.moments.items ++ c.moment-moment.result ∷ [] =
-            c.enter.ensures.moments ∙ ap (λ x. x.log.moments.items ++ c.moment-moment.result ∷ []) w.self-inside-is in
-            let doubts : c.enter.new.self.doubts.items ≡ c.confirm.new.log.doubts.items =
-            c.enter.ensures.doubts ∙ ap (λ x. x.log.doubts.items) w.self-inside-is in
-            let time = c.moment-moment.ensures ∙ ap (λ x. M x.journal.disk) w.self-inside-is in
-            subst (λ x. IsBook T L S M c.self.invariant.past (book_of x.host x.opened x.start c.enter.new.self x.claims x.journal)) (sym w.self-inside-is)
-            (not_accepted T L S M laws.only_now c.self.invariant.past i.claims i.host c.prepare.new.host i.opened i.start i.log c.confirm.new.log
-            c.enter.new.self i.journal c.args.command e c.moment-moment.result c.self.invariant.is same c.prepare.ensures.image history moments time
-            doubts command told none denied)
-      ];
-    }
 
 pub returns-clause-kept : goal.returns-clause-kept
 returns-clause-kept g c = λ past is.
@@ -264,6 +181,14 @@ returns-clause-kept g c = λ past is.
           c.enter.new.self i.journal c.args.command e c.moment-moment.result now same c.prepare.ensures.image history moments time
           doubts command told none denied)
     ]
+
+pub invariant_of-self-2 : goal.invariant_of-self-2
+invariant_of-self-2 g c = record {
+  past = c.self.invariant.past;
+  is = returns-clause-kept g c c.self.invariant.past
+      (subst (IsBook g.D.Disk.tells g.D.Disk.may_leave g.D.Disk.may_have_left g.D.Disk.moment c.self.invariant.past) c.self.view_is
+      c.self.invariant.is);
+}
 
 pub returns-clause-ok : goal.returns-clause-ok
 returns-clause-ok g c =
