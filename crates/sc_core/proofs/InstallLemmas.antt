@@ -293,11 +293,11 @@ none_installed {P = P} whole rest h is agrees can ready room =
     (record { reaches = refl; charts = refl; can = can; ready = ready; room = room; agrees = agrees })
 
 -- after the first change and the front that was taken, both of which were taken out of the list
-pub both_installed : {P : Type 0} (whole back : List (Change P)) (out first : Option (Change P)) (gone taken : Option ℕ) (h k m : Body P)
-    → out ≡ first → gone ≡ taken → first_of first ++ (taken_of taken ++ back) ≡ whole → Installs whole whole h h
+pub both_installed : {P : Type 0} (whole back : List (Change P)) (out first : Option (Change P)) (lost taken : Option ℕ) (h k m : Body P)
+    → out ≡ first → lost ≡ taken → first_of first ++ (taken_of taken ++ back) ≡ whole → Installs whole whole h h
     → ((w r : List (Change P)) (b : Body P) → Installs w (first_of out ++ r) b h → Installs w r b k)
-    → ((w r : List (Change P)) (b : Body P) → Installs w (taken_of gone ++ r) b k → Installs w r b m) → Installs whole back h m
-both_installed {P = P} whole back out first gone taken h k m same alike is l makes takes =
+    → ((w r : List (Change P)) (b : Body P) → Installs w (taken_of lost ++ r) b k → Installs w r b m) → Installs whole back h m
+both_installed {P = P} whole back out first lost taken h k m same alike is l makes takes =
     let begun : Installs whole (first_of out ++ (taken_of taken ++ back)) h h =
     subst (λ (xs : List (Change P)). Installs whole xs h h) (sym (ap (λ o. first_of o ++ (taken_of taken ++ back)) same ∙ is)) l in
     takes whole back h (subst (λ o. Installs whole (taken_of o ++ back) h k) (sym alike) (makes whole (taken_of taken ++ back) h begun))
