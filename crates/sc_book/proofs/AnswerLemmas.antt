@@ -1,7 +1,7 @@
 -- What a book is after a command, by the parts that it keeps.
 use Rattle.std.proofs.Common.{◌≡◌, ◌≢◌, ◌∙◌, ◌⊎◌, ℕ, ◌+◌, ◌^◌, ◌-◌, ◌<◌, ◌≤◌, true, false, None, Some, List, [], ◌∷◌, ◌++◌, length, refl, sym, ap, subst}
 use Rattle.sc_book.specs.Books.{BookOf, IsBook, first_head}
-use Rattle.sc_book.specs.Drafts.{IsBodyOf}
+use Rattle.sc_book.specs.Confirming.{IsBodyOf}
 use Rattle.sc_book.specs.Keeping.{IsSameLog, StoreDoubts, book_of}
 use Rattle.sc_book.specs.declared.doubt.Doubt.{Doubt}
 use Rattle.sc_book.specs.declared.fault.CallFault.{CallFault}

@@ -1,7 +1,7 @@
 -- The body of a command that a host accepts is short enough for an entry of the journal.
 use Rattle.std.proofs.Common.{◌≡◌, ◌≤◌, ◌+◌, ℕ, true, List, arith, length, subst, sym}
 use Rattle.sc_book.specs.Books.{opening}
-use Rattle.sc_book.specs.Drafts.{FitsEntry, has_fitting_values}
+use Rattle.sc_book.specs.Confirming.{FitsEntry, has_fitting_values}
 use Rattle.sc_codec.specs.Bodies.{IsEncodable, body_of, pairs_field}
 use Rattle.sc_codec.proofs.Lengths.{length-cancel, length-install, length-post, length-start, length-step, length-tick, pairs_light}
 use Rattle.sc_core.specs.Accepted.{is_accepted}

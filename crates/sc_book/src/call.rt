@@ -9,9 +9,9 @@ ghost use Rattle.sc_types.specs.declared.command.Command.{Command as CommandOf};
 
 use crate::book::Book;
 use crate::doubt::Doubt;
-use crate::draft::{confirm, prepare};
 use crate::fault::CallFault;
 use crate::log::Log;
+use crate::prepare::{confirm, prepare};
 use crate::receipt::Receipt;
 use sc_core::Prepared;
 use sc_dev::Disk;

@@ -9,10 +9,10 @@ mod call;
 mod claims;
 mod commit;
 mod doubt;
-mod draft;
 mod fault;
 mod log;
 mod opening;
+mod prepare;
 mod receipt;
 mod ticket;
 

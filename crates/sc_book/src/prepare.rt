@@ -1,6 +1,6 @@
 ghost use Rattle.std.specs.Prelude.{◌≡◌, ◌+◌, ◌^◌, ◌≤◌, true, IfOk, OnOk, length};
 ghost use Rattle.std.specs.List.{list_all};
-ghost use Rattle.sc_book.specs.Drafts.{Confirms, FitsEntry, IsBodyOf, has_fitting_values};
+ghost use Rattle.sc_book.specs.Confirming.{Confirms, FitsEntry, IsBodyOf, has_fitting_values};
 ghost use Rattle.sc_book.specs.Keeping.{HasRoom, IsSameLog};
 ghost use Rattle.sc_core.specs.Accepted.{is_accepted};
 ghost use Rattle.sc_core.specs.Commands.{answer};

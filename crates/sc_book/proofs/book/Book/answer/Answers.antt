@@ -1,6 +1,6 @@
 use Rattle.std.proofs.Common.{◌≡◌, ◌∙◌, Err, None, List, [], ◌∷◌, ◌++◌, true, false, length, length-append, refl, sym, ap, subst, arith}
 use Rattle.sc_book.specs.Books.{BookOf, IsBook, first_head}
-use Rattle.sc_book.specs.Drafts.{IsBodyOf}
+use Rattle.sc_book.specs.Confirming.{IsBodyOf}
 use Rattle.sc_book.specs.Keeping.{book_of}
 use Rattle.sc_book.specs.Receipts.{Acknowledges, IsAllOrMore}
 use Rattle.sc_core.specs.Accepted.{is_accepted}
