@@ -47,7 +47,7 @@ const EXPECTED: [(Status, &str, &str); 11] = [
     ),
     (
         Status::BadJournal,
-        "a journal in scxml.journal of this folder, and standard output tells where it is none",
+        "a sound journal in this folder's scxml.journal (init makes one), and standard output tells the damaged place",
         "\"A damaged journal\" in docs/FORMATS.md",
     ),
     (

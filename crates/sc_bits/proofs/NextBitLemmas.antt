@@ -17,14 +17,6 @@ none_in_word words place k l h e =
     ap (bit_of words) (let same : k ≡ place * 64 + (k - place * 64) = omega arith in same)
     ∙ bit_of-at words place (k - place * 64) (omega arith) ∙ is_one-zero _ e
 
--- a word that is zero adds 64 places without a bit
-pub word-zero : (words : List ℕ) (from place : ℕ) → NoneBetween words from (place * 64) → get_or words place 0 ≡ 0
-    → NoneBetween words from ((place + 1) * 64)
-word-zero words from place none e k l h = elim (cases_lt k (place * 64)) [
-  | inl b ↦ none k l b
-  | inr b ↦ none_in_word words place k b h (ap (λ x. bit_at x (k - place * 64)) e ∙ bit_at-zero (k - place * 64))
-]
-
 -- the first bit from a place on is the lowest one of the first word that is not zero
 pub word-next : (words : List ℕ) (from place : ℕ) → NoneBetween words from (place * 64) → from ≤ place * 64
     → get_or words place 0 ≢ 0 → get_or words place 0 < 2 ^ 64

@@ -83,14 +83,6 @@ any-found p f i (suc c) k r q h = any-put p (f i) i (numbers f (i + 1) c) ∙ el
 
 -- ---- contains
 
--- a number below the range is not among those that pass
-pub has-below : (f : ℕ → Bool) (i c n : ℕ) → n < i → contains (numbers f i c) n ≡ false
-has-below f i c n h = any-none (λ m. m == n) f i c (λ k r q. by (f k) k r)
-  where
-    by : (v : Bool) (k : ℕ) → i ≤ k → (v && k == n) ≡ false
-    by true k r = grind (arith, nat_tests)
-    by false k r = refl
-
 has-here : (v : Bool) (n : ℕ) → (v && n == n) ≡ v
 has-here true n = grind (arith, nat_tests)
 has-here false n = refl

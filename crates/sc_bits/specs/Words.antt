@@ -1,4 +1,4 @@
--- The numbers that words of 64 bits stand for: bit k % 64 of word k / 64 says whether k is one.
+-- The numbers that words of 64 bits stand for: bit k % 64 of word k / 64 says whether k is one. This host's own rule.
 use Rattle.std.specs.Prelude.{◌≡◌, ℕ, ◌+◌, ◌/◌, ◌%◌, ◌^◌, ◌≤◌, ◌<◌, ◌==◌, Bool, true, false, if◌then◌else◌, zero, suc, List, [], ◌∷◌, length, slice_index}
 use Rattle.std.specs.Int.{bit_at}
 

@@ -9,7 +9,7 @@ use Rattle.sc_book.specs.Books.{BookOf, HoldsAll, IsAt, IsBook, IsInDoubt, IsLas
 use Rattle.sc_book.specs.Images.{Spell, StandsFor}
 use Rattle.sc_book.specs.Receipts.{IsAllOrDoubted, IsAllOrMore, IsDuring}
 use Rattle.sc_book.specs.declared.doubt.Doubt.{Doubt}
-use Rattle.sc_codec.specs.Bodies.{Spells, body_of}
+use Rattle.sc_codec.specs.Bodies.{Spells}
 use Rattle.sc_core.specs.Accepted.{AreAccepted, accepted_commands, after, is_accepted}
 use Rattle.sc_core.specs.Commands.{answer}
 use Rattle.sc_core.specs.Histories.{IsLegal, Tells, replay}
@@ -21,18 +21,8 @@ use Rattle.sc_journal.specs.Journals.{IsAsDoubted, IsWithOrWithout, JournalOf, K
 use Rattle.sc_journal.specs.Stops.{LeavesOnly}
 use Rattle.sc_journal.specs.Texts.{Holds}
 use Rattle.sc_types.specs.declared.command.Command.{Command}
-use Rattle.sc_types.specs.declared.command.Command.TheVariants.{Install, Start, Post, Tick, Cancel, Step}
 use Rattle.sc_types.specs.declared.history.Entry.{Entry}
 use Rattle.sc_types.specs.declared.host.HostImage.{HostImage}
-
--- a body is never empty
-pub body_some : (c : Command) → 1 ≤ length (body_of c)
-body_some (Install name chart) = omega arith
-body_some (Start session chart) = omega arith
-body_some (Post session event pairs) = omega arith
-body_some (Tick ticks) = omega arith
-body_some (Cancel session) = omega arith
-body_some (Step session) = omega arith
 
 -- one more body spells one more command
 pub spell_push : (bodies : List (List ℕ)) (cs : List Command) (body : List ℕ) (c : Command)

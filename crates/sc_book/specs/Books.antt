@@ -17,9 +17,9 @@ use Rattle.sc_types.specs.declared.command.Command.{Command}
 use Rattle.sc_types.specs.declared.history.Entry.{Entry}
 use Rattle.sc_types.specs.declared.host.HostImage.{HostImage}
 
--- A book: the host, how many commands the journal held at the opening, what happened since, the disk's moment at the end
--- of the opening and at the end of each entry, the commands that a fault left in doubt, the places of the sessions that
--- workers took to step, ascending, and the journal.
+-- A book: the host, how many commands the journal held at the opening, what happened since, the disk's moment at the
+-- end of the opening and at the end of each entry, the commands that a fault left in doubt, the places of the sessions
+-- that workers took to step, ascending, and the journal.
 pub record BookOf (D : Type 0) : Type 0 where
   pub host : HostImage
   pub opened : ℕ
@@ -50,7 +50,8 @@ pub record IsAt (past : List Command) (history : List Entry) (k : ℕ) (d : Disk
   pub stands : StandsFor d (count_after past history entries) (host_after past history entries)
 
 -- it stands for k of them at least, and a command behind them that a fault left in doubt there
-pub record IsInDoubt (past : List Command) (history : List Entry) (doubts : List Doubt) (k : ℕ) (d : DiskOf) : Type 0 where
+pub record IsInDoubt (past : List Command) (history : List Entry) (doubts : List Doubt) (k : ℕ)
+    (d : DiskOf) : Type 0 where
   pub doubt : Doubt
   pub one : Contains doubts doubt
   pub least : k ≤ doubt.before

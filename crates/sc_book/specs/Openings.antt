@@ -62,6 +62,8 @@ pub record HasFirstBad (text : List ℕ) (n : ℕ) : Type 0 where
   pub held : held text ≡ Ok bodies
   pub first : IsFirstBad bodies n
 
+-- ---- for private clauses
+
 -- what a command that is accepted makes of the host
 pub record IsMade (g : HostImage) (c : Command) (h : HostImage) : Type 0 where
   pub accepted : is_accepted (answer g c).reply ≡ true

@@ -72,12 +72,14 @@ IsDuring past b c d = IsAt past b.history (length b.history) d
     ⊎ (IsInDoubt past b.history b.doubts (length b.history) d
     ⊎ StandsFor d (count_after past b.history (length b.history) + 1) (answer b.host c).host)
 
--- the parts of it: while the doubt is taken back, and then
+-- ---- for private clauses: the parts of it
 
+-- while the doubt is taken back
 abbrev pub IsAllOrDoubted : {D : Type 0} → List Command → BookOf D → DiskOf → Type 0
 IsAllOrDoubted past b d =
     IsAt past b.history (length b.history) d ⊎ IsInDoubt past b.history b.doubts (length b.history) d
 
+-- and then
 abbrev pub IsAllOrMore : {D : Type 0} → List Command → BookOf D → Command → DiskOf → Type 0
 IsAllOrMore past b c d = IsAt past b.history (length b.history) d
     ⊎ StandsFor d (count_after past b.history (length b.history) + 1) (answer b.host c).host

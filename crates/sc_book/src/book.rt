@@ -16,7 +16,9 @@ use std::marker::Model;
 pub struct Book<'e, E: Engine, D: Disk> {
     pub(crate) engine: &'e E,
     pub(crate) host: HostState<E>,
+    /// How many commands the journal held when it was opened.
     pub(crate) opened: u64,
+    /// The moment of the disk at the opening.
     pub(crate) start: u64,
     pub(crate) log: Log,
     /// The places of the sessions that workers took to step.
@@ -33,7 +35,13 @@ impl<'e, E: Engine, D: Disk> Model for Book<'e, E, D> {
 
     ghost Value = { BookOf D };
 
-    ghost coded = { Prim.hlevel (codes, host_type.the_row.coded, entry_type.the_row.coded, command_type.the_row.coded, D.code) };
+    ghost coded = { Prim.hlevel (
+      codes,
+      host_type.the_row.coded,
+      entry_type.the_row.coded,
+      command_type.the_row.coded,
+      D.code,
+    ) };
 
     ghost use Rattle.sc_book.specs.Books.{IsSome};
     ghost use Rattle.sc_book.specs.Keeping.{book_of};

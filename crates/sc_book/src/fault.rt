@@ -12,6 +12,7 @@ pub enum OpenFault {
     Damaged(u64),
     /// The entry of this number, counted from 1, is the first that is no command, or that the host refuses there.
     BadEntry(u64),
+    /// Memory is out.
     NoMemory,
 }
 

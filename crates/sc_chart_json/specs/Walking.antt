@@ -54,8 +54,10 @@ pub record AreRead (old new : Walk) (ds : Items) (kids : List Node) : Type 0 whe
 -- so far some of them were read, and these are the others
 pub record AreReading (old new : Walk) (ds more : Items) (i : ℕ) (kids : List Node) : Type 0 where
   pub passes : (rest : List Place)
-      → first_fault (expr_of plain) old.states (kid_places (places (LEVEL_LIMIT - length old.path)) old.path 0 ds ++ rest)
-      ≡ first_fault (expr_of plain) new.states (kid_places (places (LEVEL_LIMIT - length old.path)) old.path i more ++ rest)
+      → first_fault (expr_of plain) old.states
+      (kid_places (places (LEVEL_LIMIT - length old.path)) old.path 0 ds ++ rest)
+      ≡ first_fault (expr_of plain) new.states
+      (kid_places (places (LEVEL_LIMIT - length old.path)) old.path i more ++ rest)
   pub trees : kids ++ kid_trees (tree (expr_of plain) (LEVEL_LIMIT - length old.path)) more
       ≡ kid_trees (tree (expr_of plain) (LEVEL_LIMIT - length old.path)) ds
   pub path : new.path ≡ old.path

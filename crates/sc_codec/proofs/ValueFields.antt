@@ -1,5 +1,5 @@
 -- The bytes of a value of each kind, and of one item more.
-use Rattle.std.proofs.Common.{append_assoc, ◌≡◌, Bool, true, false, cond, List, [], ◌∷◌, ◌++◌, ℕ, ℤ, pos, negsuc, arith, ◌<◌, ◌^◌, refl, ap, ap₂, sym, ◌∙◌, length, flat_map, map, nat_le, ◌&&◌}
+use Rattle.std.proofs.Common.{append_assoc, ◌≡◌, Bool, true, false, cond, List, [], ◌∷◌, ◌++◌, ℕ, ℤ, pos, negsuc, arith, ◌<◌, ◌^◌, ap, ap₂, sym, ◌∙◌, length, flat_map, map, nat_le, ◌&&◌}
 use Rattle.std.specs.List.{list_all}
 use Rattle.std.specs.Prelude.{FitsSigned}
 use Rattle.std.specs.Int.{w64, cast_signed, cast_unsigned}
@@ -11,7 +11,7 @@ use Rattle.sc_base.specs.Text.{is_text, is_int}
 use Rattle.sc_codec.specs.Bodies.{value_step, value_field}
 use Rattle.sc_frame.specs.Fields.{number_field, int_field, bytes_field}
 use Rattle.sc_types.specs.Values.{is_item, fits}
-use Rattle.sc_types.specs.declared.value.Value.{Value, out-Value}
+use Rattle.sc_types.specs.declared.value.Value.{Value}
 use Rattle.sc_types.specs.declared.value.Value.TheFolds.{fold-roll-Value}
 use Rattle.sc_types.specs.declared.value.Value.TheOpen.{Value-F}
 use Rattle.sc_types.specs.declared.value.Value.TheVariants.{Bool as Truth, Int, Text, List as Listed, rolls-Bool, rolls-Int, rolls-Text, rolls-List, outs-Int}
@@ -44,8 +44,6 @@ list-field items =
 
 pub ruleset fields = (truth-field, int-field, text-field, list-field)
 
--- an item of a list is a value within the limits
-
 -- `is_item`, of a layer
 abbrev pub item_fits : Value-F Value → Bool
 item_fits (Value-F.Bool b) = false
@@ -59,16 +57,6 @@ value_fits (Value-F.Bool b) = true
 value_fits (Value-F.Int n) = is_int n
 value_fits (Value-F.Text text) = is_text text
 value_fits (Value-F.List items) = nat_le (length items) 256 && list_all is_item items
-
-layer_fits : (x : Value-F Value) → item_fits x ≡ true → value_fits x ≡ true
-layer_fits (Value-F.Bool b) e = refl
-layer_fits (Value-F.Int n) e = e
-layer_fits (Value-F.Text text) e = e
-layer_fits (Value-F.List items) e = absurd cc
-
--- each item is within the limits of values
-pub item-fits : (v : Value) → is_item v ≡ true → fits v ≡ true
-item-fits v e = layer_fits (out-Value v) e
 
 -- an integer within the limits has 64 bits
 pub int_fits : (n : ℤ) → is_int n ≡ true → FitsSigned w64 n

@@ -1,7 +1,5 @@
 -- What a refusal leaves as it was, what an accepted command counts, and what the accepted commands of a history make alone.
-use Rattle.std.proofs.Common.{◌≡◌, ◌≤◌, ◌+◌, ℕ, Bool, true, false, if◌then◌else◌, List, [], ◌∷◌, ◌++◌, length, take, drop, refl, sym, ap, subst, ◌∙◌, arith}
-use Rattle.std.proofs.lemmas.List.{take-append-drop}
-use Rattle.std.proofs.Math.Seq.{take-append_seam}
+use Rattle.std.proofs.Common.{◌≡◌, ◌≤◌, ◌+◌, ℕ, Bool, true, false, if◌then◌else◌, List, [], ◌∷◌, ◌++◌, length, refl, sym, ap, subst, ◌∙◌, arith}
 use Rattle.sc_types.specs.declared.command.Command.{Command}
 use Rattle.sc_types.specs.declared.command.Refusal.{Refusal}
 use Rattle.sc_types.specs.declared.history.Entry.{Entry}
@@ -53,11 +51,6 @@ pub refused_changes_nothing : (g : HostImage) (c : Command) → is_accepted (ans
 refused_changes_nothing g c denied =
     let refusal = refusal_of g c denied in
     subst (ChangesNothing g) (sym refusal.1) (record { host = refl; logs = refl; sent = refl })
-
--- a refused command is not counted
-pub refused_counts_none : (g : HostImage) (c : Command) → is_accepted (answer g c).reply ≡ false
-    → (answer g c).host.commands ≡ g.commands
-refused_counts_none g c denied = ap (λ (h : HostImage). h.commands) (refused_changes_nothing g c denied).host
 
 -- a turn, and what goes with it, leaves the count but for the command itself
 turn_counts : (g : HostImage) (place : ℕ) (s : SessionImage) (cue : Cue) (t : TurnResult)
@@ -138,16 +131,6 @@ accepted_append (e ∷ es) fs = by (is_accepted e.reply) (accepted_append es fs)
     by true rest = ap (λ cs. e.command ∷ cs) rest
     by false rest = rest
 
--- those of a history's first entries are the first of all
-pub accepted_take : (n : ℕ) (es : List Entry)
-    → accepted_commands (take n es) ≡ take (length (accepted_commands (take n es))) (accepted_commands es)
-accepted_take n es =
-    let first = accepted_commands (take n es) in
-    let last = accepted_commands (drop n es) in
-    let all : accepted_commands es ≡ first ++ last =
-    ap accepted_commands (sym (take-append-drop n es)) ∙ accepted_append (take n es) (drop n es) in
-    sym (ap (take (length first)) all ∙ take-append_seam first last)
-
 -- there are no more of them than entries
 pub accepted_few : (es : List Entry) → length (accepted_commands es) ≤ length es
 accepted_few [] = omega arith
@@ -175,11 +158,6 @@ pub legal_parts : (g : HostImage) (es fs : List Entry) → IsLegal g (es ++ fs) 
 legal_parts g [] fs legal = (tt, legal)
 legal_parts g (e ∷ es) fs legal =
     let parts = legal_parts (answer g e.command).host es fs legal.1 in ((legal.0, parts.0), parts.1)
-
--- the first entries of a legal history, so many
-pub legal_take : (g : HostImage) (n : ℕ) (es : List Entry) → IsLegal g es → IsLegal g (take n es)
-legal_take g n es legal =
-    (legal_parts g (take n es) (drop n es) (subst (IsLegal g) (sym (take-append-drop n es)) legal)).0
 
 -- the accepted commands of a legal history are accepted, one by one
 pub legal_accepted : (g : HostImage) (es : List Entry) → IsLegal g es → AreAccepted g (accepted_commands es)

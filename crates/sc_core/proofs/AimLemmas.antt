@@ -16,7 +16,7 @@ use Rattle.sc_types.specs.declared.host.To.TheVariants as to
 use Rattle.sc_types.specs.declared.session.Phase.{Phase}
 use Rattle.sc_types.specs.declared.session.SessionState.{SessionState}
 use Rattle.sc_core.specs.Aims.{Outline, aim, aim_found, aim_named, carried, invokeid_for, outline, outlines, received}
-use Rattle.sc_core.specs.Changes.{at_session, put_state, queue_at, tell, with_invokeid}
+use Rattle.sc_core.specs.Changes.{put_state, with_invokeid}
 use Rattle.sc_core.specs.Deliveries.{Delivered, arriving, fire, hears, is_cut_from, left_as, queue, receiver_name, send_found, send_named, send_now, unreachable, while_live}
 use Rattle.sc_core.specs.Hosts.{is_live, is_running, is_session_named, session_named, session_place, with_session}
 use Rattle.sc_core.specs.declared.aims.Aim.{Aim}
@@ -175,27 +175,6 @@ outlines_set g place s t there same =
 pub outlines_queue : (g : HostImage) (place : ℕ) (s : SessionImage) (e : Event) → slice_get g.sessions place ≡ Some s
     → outlines (queue g place s e) ≡ outlines g
 outlines_queue g place s e there = outlines_set g place s _ there refl
-
--- a session is changed within its outline
-pub outlines_at : (g : HostImage) (place : ℕ) (f : SessionImage → SessionImage)
-    → ((s : SessionImage) → outline (f s) ≡ outline s) → outlines (at_session g place f) ≡ outlines g
-outlines_at g place f same = by (slice_get g.sessions place) refl
-  where
-    by : (o : Option SessionImage) → slice_get g.sessions place ≡ o
-        → outlines (option_map_or (λ (s : SessionImage). with_session g place (f s)) o g) ≡ outlines g
-    by None at = refl
-    by (Some s) at = outlines_set g place s (f s) at (same s)
-
-pub outlines_tell : (g : HostImage) (place : ℕ) (e : Event) → outlines (tell g place e) ≡ outlines g
-outlines_tell g place e = outlines_at g place _ (λ s. refl)
-
-pub outlines_queue_at : (g : HostImage) (place : ℕ) (e : Event) → outlines (queue_at g place e) ≡ outlines g
-outlines_queue_at g place e = by (slice_get g.sessions place) refl
-  where
-    by : (o : Option SessionImage) → slice_get g.sessions place ≡ o
-        → outlines (option_map_or (λ (s : SessionImage). queue g place s e) o g) ≡ outlines g
-    by None at = refl
-    by (Some s) at = outlines_queue g place s e at
 
 outlines_unreachable : (g : HostImage) (place : ℕ) (s : SessionImage) (e : Event) → slice_get g.sessions place ≡ Some s
     → outlines (unreachable g place s e).host ≡ outlines g

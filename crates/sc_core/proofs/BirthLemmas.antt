@@ -11,7 +11,7 @@ use Rattle.std.proofs.lemmas.Option.{none-some}
 use Rattle.sc_types.specs.declared.host.HostImage.{HostImage}
 use Rattle.sc_types.specs.declared.host.SessionImage.{SessionImage}
 use Rattle.sc_types.specs.declared.session.SessionState.{SessionState}
-use Rattle.sc_core.specs.Aims.{aim_found, outline, outlines, Outline}
+use Rattle.sc_core.specs.Aims.{aim_found, outline, Outline}
 use Rattle.sc_core.specs.Births.{AreFrom, IsGrown, Sight, birth_place, born_sight, sight, sights}
 use Rattle.sc_core.specs.Changes.{put_state}
 use Rattle.sc_core.specs.Deliveries.{while_live}
@@ -308,10 +308,6 @@ sights_outlined : (ss : List SessionImage) → map sight ss ≡ map sight_of (ma
 unfolding sight_of
 sights_outlined [] = refl
 sights_outlined (s ∷ ss) = ap (λ os. sight s ∷ os) (sights_outlined ss)
-
--- where the outlines are the same, the same is seen
-pub sights_alike : (g h : HostImage) → outlines h ≡ outlines g → sights h ≡ sights g
-sights_alike g h same = sights_outlined h.sessions ∙ ap (map sight_of) same ∙ sym (sights_outlined g.sessions)
 
 -- a session is replaced by one that looks like it
 pub sights_set : (g : HostImage) (place : ℕ) (s t : SessionImage) → slice_get g.sessions place ≡ Some s → sight t ≡ sight s

@@ -464,13 +464,6 @@ dropped_drafted who g old t to e delay draft may =
 
 -- ---- pending sends that go
 
--- no send has the empty id
-pub undone_none : {P : Type 0} (who : Stepper) (g : HostImage) (old : Draft P) (t : SessionImage) (id : List ℕ)
-    → IsDraft who g old → id ≡ [] → Drafts who g old old (undo (so_far g old) t id) (Undone 0)
-undone_none who g old t id draft none =
-    drafts_same who g old old (left_as (so_far g old) (Undone 0)) (undo (so_far g old) t id) (Undone 0)
-    (ap (undo (so_far g old) t) none) (none_drafted who g old (left_as (so_far g old) (Undone 0)) (Undone 0) draft refl refl)
-
 abbrev undone : HostImage → List ℕ → List ℕ → Delivered
 undone h session id = record {
   host = record h { timers = filter (λ t. not (is_send session id t)) h.timers };

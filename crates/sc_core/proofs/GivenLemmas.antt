@@ -217,11 +217,6 @@ gifts_both : (xs ys : List Delivery) → gifts (xs ++ ys) ≡ gifts xs ++ gifts 
 gifts_both [] ys = refl
 gifts_both (x ∷ xs) ys = ap (λ more. given_in x ++ more) (gifts_both xs ys) ∙ sym (append_assoc (given_in x) (gifts xs) (gifts ys))
 
--- the same host with another count of commands
-counted_given : (done : List Entry) (g : HostImage) (count : ℕ) → AllWereGiven done g
-    → AllWereGiven done (record g { commands = count })
-counted_given done g count h = h
-
 -- what an entry leaves waiting was given before it, or by it
 given_kept : (done : List Entry) (g : HostImage) (e : Entry) (a : Answer) → Change g e.command a → Tells e a
     → AllWereGiven done g → AllWereGiven (done ++ e ∷ []) a.host

@@ -3,16 +3,15 @@ use Rattle.std.proofs.Common.{◌≡◌, ℕ, ◌≤◌, All, List, [], ◌∷�
 use Rattle.sc_types.specs.declared.chart.Chart.{Chart}
 use Rattle.sc_types.specs.declared.host.HostImage.{HostImage}
 use Rattle.sc_types.specs.declared.host.TimerImage.{TimerImage}
-use Rattle.sc_core.specs.Bodies.{Agrees, Keeps, image, session_image}
+use Rattle.sc_core.specs.Bodies.{Agrees, Keeps, image}
 use Rattle.sc_core.specs.FittingHosts.{FitsChart}
 use Rattle.std.proofs.lemmas.List.Elements.{All-push}
 use Rattle.sc_core.specs.Holding.{IsHeld, host_of, rooms_of}
 use Rattle.sc_core.specs.HostStates.{ArePlanned, CanInstall, CanMake, HasRoomIn, HaveRoomIn, HaveRoomOfIn, IsPlanned, IsSound}
-use Rattle.sc_core.specs.Installing.{AreRoomy, CanApplyAll, HasRoom, HaveRoom, HaveRoomOf, HaveTargets, charts_after, installed, rooms_ahead}
+use Rattle.sc_core.specs.Installing.{CanApplyAll, HasRoom, HaveRoom, HaveRoomOf, charts_after, installed, rooms_ahead}
 use Rattle.sc_core.specs.declared.change.Change.{Change}
 use Rattle.sc_core.specs.declared.change.Change.TheVariants.{Count, Advance, Install, Start, Bear, PutState, TakeFront, Queue, Tell, Flag, CutOff, DropInvoke, End, Delay, Undo, Lose}
 use Rattle.sc_core.proofs.RoomLemmas.{room_is}
-use Rattle.sc_core.proofs.SetLemmas.{map_long}
 use Rattle.sc_core.specs.declared.session.Session.{Session}
 use Rattle.sc_core.specs.Hosts.{empty_host}
 use Rattle.sc_core.specs.declared.body.Body.{Body}
@@ -124,25 +123,6 @@ rooms_of_in n h rooms (c ∷ cs) r = (room_of n h rooms c r.0, rooms_of_in n h r
 
 rooms_in : {P : Type 0} (n : ℕ) (h : Body P) (cs : List (Change P)) → HaveRoom n h cs → HaveRoomIn n (rooms_of h) cs
 rooms_in n h cs r = rooms_of_in n h (rooms_ahead h cs) cs r
-
--- a body with more room is held
-pub held_kept : {P : Type 0} (chart_of : P → Chart) (h k : Body P) → IsHeld chart_of h → Keeps h k
-    → k.charts.items ≡ h.charts.items → IsHeld chart_of k
-held_kept chart_of h k held keeps charts = record {
-  agrees = keeps.agrees;
-  plans = subst (All (IsPlanned chart_of)) (sym charts) held.plans;
-  sound = subst IsSound (sym keeps.image) held.sound;
-}
-
--- the queues that changes need are those of the body
-pub targets_in : {P : Type 0} (h : Body P) (cs : List (Change P)) → HaveTargets (length (image h).sessions) cs
-    → HaveTargets (length h.sessions.items) cs
-targets_in h cs t = subst (λ n. HaveTargets n cs) (map_long session_image h.sessions.items) t
-
--- and so are those of the sessions that are started
-pub roomy_in : {P : Type 0} (h : Body P) (cs : List (Change P)) → AreRoomy (length (image h).sessions) cs
-    → AreRoomy (length h.sessions.items) cs
-roomy_in h cs t = subst (λ n. AreRoomy n cs) (map_long session_image h.sessions.items) t
 
 -- changes for which room was made can be installed
 pub can_install : {P : Type 0} (chart_of : P → Chart) (h k : Body P) (cs : List (Change P)) → Keeps h k

@@ -267,12 +267,6 @@ one_installed {P = P} whole rest c cs h k m is l made newest charts =
           (rooms_lowered k m c cs made newest) now.room.1;
     }
 
-pub all_installed : {P : Type 0} (whole rest : List (Change P)) (h k : Body P) → rest ≡ [] → Installs whole rest h k
-    → image k ≡ installed whole (image h)
-all_installed {P = P} whole rest h k none l =
-    let now = subst (λ (xs : List (Change P)). Installs whole xs h k) none l in
-    now.reaches
-
 -- the changes that are left after the first, where there is one
 pub first_installed : {P : Type 0} (whole rest : List (Change P)) (first : Option (Change P)) (h k : Body P)
     → Installs whole (first_of first ++ rest) h k → CanMakeFirst first k

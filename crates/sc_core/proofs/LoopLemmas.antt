@@ -81,13 +81,6 @@ pub new_last : {P : Type 0} (cs : List (Change P)) (births : List Placed) (n : �
 new_last cs births n left whole at was =
     sym (append-nil left) ∙ ap (λ all. left ++ new_left cs all) (sym (drop_none births n at)) ∙ was
 
-pub cut_birth : {P : Type 0} (cs : List (Change P)) (b : Placed) → is_cut_in cs b.place ≡ true → new_left cs (b ∷ []) ≡ []
-cut_birth cs b is = ap (λ v. cond (not v) (b ∷ []) []) is
-
-pub kept_birth : {P : Type 0} (cs : List (Change P)) (b : Placed) → is_cut_in cs b.place ≡ false
-    → new_left cs (b ∷ []) ≡ b ∷ []
-kept_birth cs b is = ap (λ v. cond (not v) (b ∷ []) []) is
-
 -- ---- they are cut off
 
 -- a draft, with these children cut off

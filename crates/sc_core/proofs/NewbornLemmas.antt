@@ -289,9 +289,6 @@ rooms_push count (Delay send ∷ cs) c all room = rooms_push count cs c all room
 rooms_push count (Undo session id ∷ cs) c all room = rooms_push count cs c all room
 rooms_push count (Lose ∷ cs) c all room = rooms_push count cs c all room
 
-pub goes_start : {P : Type 0} (gets : Bool) (count : ℕ) (whole : List (Change P)) → GoesOn gets count whole whole []
-goes_start gets count whole = record { alike = λ more alike. alike; rooms = λ yes. tt }
-
 pub goes_next : {P : Type 0} (gets : Bool) (count : ℕ) (whole rest roomy left new : List (Change P)) (c d : Change P)
     → rest ≡ c ∷ left → IsAlike c d → (gets ≡ true → HasNewRoom count d) → new ≡ roomy ++ d ∷ []
     → GoesOn gets count whole rest roomy → GoesOn gets count whole left new

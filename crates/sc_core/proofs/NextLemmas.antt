@@ -4,18 +4,15 @@ use Rattle.std.proofs.lemmas.Option.{same_Some, some_pair_parts}
 use Rattle.sc_types.specs.declared.chart.Chart.{Chart}
 use Rattle.sc_types.specs.declared.command.Command.{Command}
 use Rattle.sc_types.specs.declared.command.Command.TheVariants.{Cancel, Install, Post, Start, Step, Tick}
-use Rattle.sc_types.specs.declared.command.Refusal.{Refusal}
-use Rattle.sc_types.specs.declared.command.Reply.TheVariants.{Refused, Stepped}
 use Rattle.sc_types.specs.declared.host.HostImage.{HostImage}
 use Rattle.sc_types.specs.declared.host.SessionImage.{SessionImage}
 use Rattle.sc_types.specs.declared.session.Cue.{Cue}
 use Rattle.sc_types.specs.declared.session.Phase.{Phase}
 use Rattle.sc_types.specs.declared.session.Phase.TheVariants as phase
 use Rattle.sc_types.specs.declared.value.Value.{Value}
-use Rattle.sc_law.specs.Fitting.{Fits}
 use Rattle.sc_law.specs.Turn.{TurnResult, turn}
-use Rattle.sc_core.specs.Commands.{Answer, answer, cancel, install, post, refused, start, step, step_cue, step_in, step_turn, tick}
-use Rattle.sc_core.specs.Cues.{cue_in, cue_of, name_of}
+use Rattle.sc_core.specs.Commands.{Answer, answer, cancel, install, post, start, step, step_cue, step_in, step_turn, tick}
+use Rattle.sc_core.specs.Cues.{cue_in, cue_of}
 use Rattle.sc_core.specs.Hosts.{chart_named, session_named}
 use Rattle.sc_core.specs.HostStates.{ArePlanned, CanMake, IsSound}
 use Rattle.sc_core.specs.Preparing.{FitsOn, Prepares, StepFits}
@@ -29,14 +26,6 @@ pub step_given : {P : Type 0} (g : HostImage) (place : ℕ) (s : SessionImage) (
     → Prepares (step_turn g place s cue given) g p
     → Prepares (step_turn g place s cue (turn (chart_named g s.state.chart) s.state cue)) g p
 step_given g place s cue given p is prepared = subst (λ (r : TurnResult). Prepares (step_turn g place s cue r) g p) is prepared
-
--- and what it says of a session that goes on holds of that turn
-pub fits_given : (g : HostImage) (s : SessionImage) (cue : Cue) (given : TurnResult)
-    → given ≡ turn (chart_named g s.state.chart) s.state cue
-    → (given.after.phase ≡ phase.Running → Fits (chart_named g s.state.chart) given.after) → FitsOn g s cue
-fits_given g s cue given is fits = record {
-  fits = subst (λ (r : TurnResult). r.after.phase ≡ phase.Running → Fits (chart_named g s.state.chart) r.after) is fits;
-}
 
 -- a session with a cue takes its turn
 pub step_is : (g : HostImage) (place : ℕ) (s : SessionImage) (cue : Cue) → cue_of s ≡ Some cue
@@ -58,15 +47,6 @@ pub step_found : {P : Type 0} (g : HostImage) (name : List ℕ) (place : ℕ) (s
     → Prepares (step g (session_named g name)) g p
 step_found g name place s cue p found cued prepared =
     subst (λ (a : Answer). Prepares a g p) (sym (ap (step g) found ∙ step_is g place s cue cued)) prepared
-
--- a step that is refused is that of no session which goes on
-pub refused_fits : (g : HostImage) (name : List ℕ) (why : Refusal) → step g (session_named g name) ≡ refused g why
-    → StepFits g (Step name)
-refused_fits g name why refuses session place s cue is found cued =
-    let named : session_named g name ≡ Some (place, s) = cc in
-    let replied : Stepped (name_of cue) ≡ Refused why =
-    ap (λ (a : Answer). a.reply) (sym (ap (step g) named ∙ step_is g place s cue cued) ∙ refuses) in
-    absurd cc
 
 -- the session that a step names is the one that was found
 pub found_fits : (g : HostImage) (name : List ℕ) (place : ℕ) (s : SessionImage) (cue : Cue) → session_named g name ≡ Some (place, s)

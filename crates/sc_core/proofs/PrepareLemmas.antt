@@ -1,8 +1,7 @@
 -- What is prepared for a command is its answer.
-use Rattle.std.proofs.Common.{Option, Result, Ok, Err, IfOk, ◌≡◌, ℕ, ◌+◌, ◌^◌, ◌<◌, ◌||◌, suc, not, nat_lt, Bool, true, false, cond, is_some, Some, None, List, [], ◌∷◌, length, position, refl, arith, ap, subst, sym, ◌∙◌}
+use Rattle.std.proofs.Common.{Option, ◌≡◌, ℕ, ◌+◌, ◌^◌, ◌<◌, ◌||◌, suc, not, nat_lt, Bool, true, false, cond, is_some, Some, None, List, [], ◌∷◌, length, position, refl, arith, ap, subst, sym, ◌∙◌}
 use Rattle.std.proofs.lemmas.Bool.Decides.{nat_tests}
 use Rattle.std.specs.List.{list_any, position_or_len}
-use Rattle.sc_base.specs.declared.memory.NoMemory.{NoMemory}
 use Rattle.sc_types.specs.declared.command.Reply.{Reply}
 use Rattle.sc_types.specs.declared.host.HostImage.{HostImage}
 use Rattle.sc_core.specs.Commands.{accepted}
@@ -75,12 +74,3 @@ no_chart g name none = by (chart_place g name) (some_position (is_chart_named na
     by : (o : Option ℕ) → is_some o ≡ has_chart g name → o ≡ None
     by None is = refl
     by (Some i) is = absurd (let no : true ≡ false = is ∙ none in cc)
-
--- the same where there was memory for it
-pub accepts_ok : {P : Type 0} (g h : HostImage) (c : Change P) (reply : Reply) (r : Result (Prepared P) NoMemory)
-    → IfOk r (λ p. p.changes ≡ c ∷ Count ∷ []) → IfOk r (λ p. p.reply ≡ reply) → IfOk r (λ p. p.logs ≡ [])
-    → IfOk r (λ p. p.sent ≡ []) → CanApply g c
-    → HasTarget (length g.sessions) c → apply c g ≡ h → h.commands + 1 < 2 ^ 64
-    → IfOk r (Prepares (accepted h reply [] []) g)
-accepts_ok g h c reply (Ok p) changes replied logs sent can target is less = accepts g h c reply p changes replied logs sent can target is less
-accepts_ok g h c reply (Err e) changes replied logs sent can target is less = tt

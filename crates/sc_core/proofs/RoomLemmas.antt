@@ -299,15 +299,6 @@ keeps_ready h ready agrees places spare = record {
   image = refl;
 }
 
-pub first_room : {P : Type 0} (whole : List (Change P)) (n : ℕ) (h : Body P) → Agrees h
-    → HaveTargets (length h.sessions.items) whole → MakesRoom whole n 0 h h
-first_room whole n h agrees targets = record {
-  keeps = keeps_same h agrees;
-  charts = refl;
-  rest = λ m kept have. have;
-  targets = targets;
-}
-
 -- what is listed has a target where the whole has
 pub first_targets : {P : Type 0} (n : ℕ) (whole : List (Change P)) (first : Option (Change P)) (rest : List (Change P))
     → first_of first ++ rest ≡ whole → HaveTargets n whole → HaveTargets n (first_of first)

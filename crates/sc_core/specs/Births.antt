@@ -1,5 +1,5 @@
--- Sessions that are born in the step under way, before anything changes. This host's own rule; only private clauses cite
--- these definitions.
+-- Sessions that are born in the step under way, before anything changes. This host's own rule; only private clauses
+-- cite these definitions.
 use Rattle.std.specs.Prelude.{ℕ, ◌+◌, ◌≡◌, ◌++◌, Option, option_map, List, [], ◌∷◌, find, length, map}
 use Rattle.std.specs.Str.{bytes_eq}
 use Rattle.sc_types.specs.declared.host.HostImage.{HostImage}

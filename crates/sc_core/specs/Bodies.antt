@@ -1,4 +1,5 @@
--- The host's body as the host machine that it stands for. Only private clauses cite these definitions.
+-- The host's body as the host machine that it stands for. This host's own rule. Public contracts cite `cued` alone, by
+-- which a ready session is found; the rest is for private clauses.
 use Rattle.std.specs.Prelude.{ℕ, ◌+◌, ◌≡◌, ◌≤◌, ◌==◌, not, filter, Bool, false, if◌then◌else◌, Option, option_map, List, [], ◌∷◌, ◌++◌, map, slice_get}
 use Rattle.std.specs.Option.{option_map_or}
 use Rattle.std.specs.Str.{bytes_eq}
@@ -58,7 +59,8 @@ children_of name from (by ∷ more) =
 -- of each name the list of its children; a name of no session invoked none
 pub record IsFamily (names : List (List ℕ)) (inviters : List (Option (List ℕ))) (lists : List (List ℕ)) : Type 0 where
   pub each : lists ≡ map (λ name. children_of name 0 inviters) names
-  pub strangers : (name : List ℕ) → list_any (λ other. bytes_eq other name) names ≡ false → children_of name 0 inviters ≡ []
+  pub strangers : (name : List ℕ) → list_any (λ other. bytes_eq other name) names ≡ false
+      → children_of name 0 inviters ≡ []
 
 -- what the body holds beside its data agrees with them
 pub record Agrees {P : Type 0} (h : Body P) : Type 0 where

@@ -1,4 +1,4 @@
--- The elementary changes of the host machine. This host's own rule; only private clauses cite these definitions.
+-- The elementary changes of the host machine, of which `installed` makes a list. This host's own rule.
 use Rattle.std.specs.Prelude.{ℕ, ◌≤◌, ◌++◌, List, [], ◌∷◌, Option, Some, None, not, filter, slice_get, true, drop}
 use Rattle.std.specs.Option.{option_map_or}
 use Rattle.sc_types.specs.Sends.{is_send, with_send}

@@ -155,7 +155,8 @@ cancel g (Some found) = cancel_to g found.0 found.1 found.1.state.phase
 abbrev pub put_in : SessionImage → Cue → TurnResult → SessionImage
 put_in s cue t = record s { state = t.after; queued = queue_left cue s.queued }
 
--- the state after the turn is put in, then the turn's effects are carried out, and then what goes with the session's end
+-- the state after the turn is put in, then the turn's effects are carried out, and then what goes with the session's
+-- end
 abbrev pub step_turn : HostImage → ℕ → SessionImage → Cue → TurnResult → Answer
 step_turn g place s cue t =
     let delivered = deliver_all (with_session g place (put_in s cue t)) place t.effects in

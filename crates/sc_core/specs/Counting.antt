@@ -1,5 +1,5 @@
--- How many sends of a session have an id, as a step's changes go on. This host's own rule; only private clauses cite these
--- definitions.
+-- How many sends of a session have an id, as a step's changes go on. This host's own rule; only private clauses cite
+-- these definitions.
 use Rattle.std.specs.Prelude.{ℕ, ◌+◌, ◌&&◌, if◌then◌else◌, List}
 use Rattle.std.specs.Str.{bytes_eq}
 use Rattle.sc_types.specs.Sends.{is_send}

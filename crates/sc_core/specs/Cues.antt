@@ -1,5 +1,5 @@
--- What a session's next turn begins with, and which sessions are ready. SCXML Appendix D, mainEventLoop; that a session is
--- cancelled before it takes external events, and that the ready session which was started first steps first, is this
+-- What a session's next turn begins with, and which sessions are ready. SCXML Appendix D, mainEventLoop; that a session
+-- is cancelled before it takes external events, and that the ready session which was started first steps first, is this
 -- host's own rule.
 use Rattle.std.specs.Prelude.{ℕ, Bool, false, true, is_some, Option, Some, None, option_map, List, [], ◌∷◌, drop, find}
 use Rattle.sc_types.specs.declared.event.Event.{Event}

@@ -1,5 +1,5 @@
--- How the host carries out what a turn asks for (SCXML 6.2, 6.3, 6.4 and C.1). The order of the tests, and which of them
--- tells the sender, is this host's own rule.
+-- How the host carries out what a turn asks for (SCXML 6.2, 6.3, 6.4 and C.1). The order of the tests, and which of
+-- them tells the sender, is this host's own rule.
 use Rattle.std.specs.Prelude.{ℕ, ◌+◌, ◌-◌, ◌^◌, ◌==◌, ◌&&◌, Bool, false, true, not, if◌then◌else◌, min, nat_le, nat_lt, Option, Some, None, is_some, option_map, List, [], ◌∷◌, ◌++◌, codes, count_by, filter, length, slice_get}
 use Rattle.std.specs.Option.{option_map_or}
 use Rattle.std.specs.Str.{bytes_eq}
@@ -151,7 +151,8 @@ without_invoke child s = record s {
 -- the session hears of an event that the host tells while it runs
 abbrev pub told : Event → SessionImage → SessionImage
 told e s =
-    if is_running s.state.phase then record s { state = record s.state { internal = s.state.internal ++ e ∷ [] } } else s
+    if is_running s.state.phase then record s { state = record s.state { internal = s.state.internal ++ e ∷ [] } }
+    else s
 
 -- 6.4: the chart is installed, the child is not too deep, and its name is short and new. A session counts its children,
 -- and no client starts a session of such a name, so that a name which is too long or taken never comes.

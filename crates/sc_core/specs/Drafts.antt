@@ -100,7 +100,8 @@ pub record IsSender {P : Type 0} (before : HostImage) (place : ℕ) (after : Ses
   pub there : slice_get (so_far g d).sessions place ≡ Some t
 
 -- a delivery was drafted, and is told as the host machine does
-pub record Drafts {P : Type 0} (who : Stepper) (g : HostImage) (old new : Draft P) (d : Delivered) (said : Delivery) : Type 0 where
+pub record Drafts {P : Type 0} (who : Stepper) (g : HostImage) (old new : Draft P) (d : Delivered)
+    (said : Delivery) : Type 0 where
   pub draft : IsDraft who g new
   pub host : so_far g new ≡ d.host
   pub told : said ≡ d.what

@@ -1,5 +1,5 @@
--- What happens at the end of a session (SCXML 6.4 and Appendix D, exitInterpreter). The order, and that a session which was
--- cancelled tells nobody, is this host's own rule.
+-- What happens at the end of a session (SCXML 6.4 and Appendix D, exitInterpreter). The order, and that a session which
+-- was cancelled tells nobody, is this host's own rule.
 use Rattle.std.specs.Prelude.{ℕ, ◌&&◌, ◌++◌, Bool, false, not, if◌then◌else◌, Option, Some, None, option_map, List, [], ◌∷◌, codes, filter, map, slice_get}
 use Rattle.std.specs.Option.{option_map_or}
 use Rattle.std.specs.Str.{bytes_eq}
@@ -25,7 +25,8 @@ use Rattle.sc_core.specs.Hosts.{is_live, session_named, with_session}
 -- a session that has ended loses its external queue and its pending sends
 abbrev pub cleared : HostImage → ℕ → SessionImage → HostImage
 cleared g place s =
-    record (with_session g place (record s { queued = [] })) { timers = filter (λ t. not (is_of s.state.session t)) g.timers }
+    record (with_session g place (record s { queued = [] }))
+    { timers = filter (λ t. not (is_of s.state.session t)) g.timers }
 
 -- the session of this name invoked it, and the two are not cut off from one another
 abbrev pub is_bound_to : List ℕ → SessionImage → Bool
@@ -73,7 +74,8 @@ one_delivery d = record { host = d.host; sent = d.what ∷ [] }
 abbrev pub tell_end : HostImage → Option InvokerImage → How → DeliveredAll
 tell_end g None how = record { host = g; sent = [] }
 tell_end g (Some i) how =
-    option_map_or (λ (e : Event). one_delivery (tell_invoker g i e)) (end_event i.invokeid how) (record { host = g; sent = [] })
+    option_map_or (λ (e : Event). one_delivery (tell_invoker g i e)) (end_event i.invokeid how)
+    (record { host = g; sent = [] })
 
 abbrev pub end_with : HostImage → SessionImage → How → DeliveredAll
 end_with g s how =

@@ -27,8 +27,8 @@ pub record HostOf : Type 0 where
   pub image : HostImage
   pub room : Rooms
 
--- what is always true of the host machine: sessions fit their charts, sends have numbers that were given out, no command
--- gave out as many numbers of events as a list may have items, and the clock is within its limit
+-- what is always true of the host machine: sessions fit their charts, sends have numbers that were given out, no
+-- command gave out as many numbers of events as a list may have items, and the clock is within its limit
 pub record IsSound (g : HostImage) : Type 0 where
   pub sessions : All (FitsChart g) g.sessions
   pub sends : All (λ (t : TimerImage). t.number ≤ g.delayed) g.timers
@@ -71,7 +71,7 @@ pub record CanInstall {P : Type 0} (chart_of : P → Chart) (h : HostOf) (change
   pub plans : ArePlanned chart_of changes
   pub sound : IsSound (installed changes h.image)
 
--- the same but for the room
+-- for private clauses: the same but for the room
 pub record CanMake {P : Type 0} (chart_of : P → Chart) (g : HostImage) (changes : List (Change P)) : Type 0 where
   pub can : CanApplyAll g changes
   pub targets : HaveTargets (length g.sessions) changes

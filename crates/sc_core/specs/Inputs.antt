@@ -11,7 +11,8 @@ use Rattle.sc_core.specs.Hosts.{chart_named}
 use Rattle.sc_core.specs.declared.inputs.TurnInput.{TurnInput}
 
 -- The plan of the session's chart, its state and its cue; and an engine can compute the turn.
-pub record IsInput {P : Type 0} (chart_of : P → Chart) (g : HostImage) (s : SessionImage) (i : TurnInput P) : Type 0 where
+pub record IsInput {P : Type 0} (chart_of : P → Chart) (g : HostImage) (s : SessionImage)
+    (i : TurnInput P) : Type 0 where
   pub chart : chart_of (arc_value i.plan) ≡ chart_named g s.state.chart
   pub before : i.before ≡ s.state
   pub cue : cue_of s ≡ Some i.cue

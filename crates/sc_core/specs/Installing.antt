@@ -1,5 +1,5 @@
--- The changes that a command makes of the host machine, in order. This host's own rule; only private clauses cite these
--- definitions.
+-- The changes that a command makes of the host machine, in order: the host after them, when they can be made, and the
+-- room that they need. This host's own rule. `install` and `CanInstall` stand on it.
 use Rattle.std.specs.Prelude.{ℕ, ◌++◌, ◌+◌, ◌-◌, ◌^◌, ◌<◌, ◌≤◌, ◌≡◌, All, List, [], ◌∷◌, Some, None, length, map, option_map, slice_get, unwrap_or}
 use Rattle.std.specs.List.{AllByRecursion}
 use Rattle.sc_types.specs.declared.host.HostImage.{HostImage}
@@ -50,7 +50,8 @@ abbrev pub CanApply : {P : Type 0} → HostImage → Change P → Type 0
 CanApply g Count = g.commands + 1 < 2 ^ 64
 CanApply g (Advance clock) = Unit {0}
 CanApply g (Install name chart) = (chart.image.name ≡ name) × (chart_place g name ≡ None)
-CanApply g (Start name session) = (session.state.session ≡ name) × (session_place g name ≡ None) × (session.invoker ≡ None)
+CanApply g (Start name session) = (session.state.session ≡ name) × (session_place g name ≡ None)
+    × (session.invoker ≡ None)
     × (session.children.items ≡ [])
 CanApply g (Bear invoker name session) = (session.state.session ≡ name) × (session_place g name ≡ None)
     × IsChildAt g invoker session × (session.children.items ≡ [])

@@ -1,4 +1,5 @@
--- What is prepared for a command. This host's own rule; only private clauses cite these definitions.
+-- What is prepared for a command. This host's own rule. Public contracts cite `Prepares` alone; the rest is for private
+-- clauses.
 use Rattle.std.specs.Prelude.{ℕ, ◌≡◌, List, Result, Ok, Err, Some, length}
 use Rattle.sc_types.specs.declared.chart.Chart.{Chart}
 use Rattle.sc_types.specs.declared.command.Command.{Command}

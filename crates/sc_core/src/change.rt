@@ -176,7 +176,8 @@ impl<P: Drop> Body<P> {
         requires agrees { Agrees self.old }
         requires can { CanApplyAll (image self.old) (more.old ++ counted_of counted) }
         requires ready { length (more.old ++ counted_of {P = P} counted) ≤ self.old.ready.spare }
-        requires room { HaveRoom (length (more.old ++ counted_of {P = P} counted)) self.old (more.old ++ counted_of counted) }
+        requires room { HaveRoom (length (more.old ++ counted_of {P = P} counted)) self.old
+            (more.old ++ counted_of counted) }
         ensures agrees { Agrees self.new }
         ensures image { image self.new ≡ installed (more.old ++ counted_of counted) (image self.old) }
         ensures charts { self.new.charts.items ≡ charts_after (more.old ++ counted_of counted) self.old.charts.items }

@@ -73,8 +73,8 @@ impl<P: Drop> ChangeList<P> {
         }
     }
 
-    /// The changes of a step: the state after its turn is put in, an external event leaves its queue, and what more there
-    /// is; and the command is counted.
+    /// The changes of a step: the state after its turn is put in, an external event leaves its queue, and what more
+    /// there is; and the command is counted.
     pub(crate) fn of_step(
         place: usize,
         cue: &Cue,

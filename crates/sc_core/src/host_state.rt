@@ -1,14 +1,12 @@
-ghost use Rattle.std.specs.Prelude.{◌≡◌, IfOk, OnOk, find, length, map, nat_le, position, slice_get};
-ghost use Rattle.std.specs.Option.{option_copied};
+ghost use Rattle.std.specs.Prelude.{◌≡◌, OnOk, find, nat_le};
 ghost use Rattle.sc_core.specs.Bodies.{cued};
 ghost use Rattle.sc_core.specs.HostStates.{CanInstall, CanMake};
 ghost use Rattle.sc_core.specs.Installing.{installed};
-ghost use Rattle.sc_core.specs.Hosts.{empty_host, session_place, chart_place};
-ghost use Rattle.sc_types.specs.declared.host.SessionImage.{SessionImage};
+ghost use Rattle.sc_core.specs.Hosts.{empty_host};
 
 use crate::body::Body;
 use crate::prepared::Prepared;
-use sc_base::{NoMemory, Word};
+use sc_base::NoMemory;
 use sc_law::Engine;
 use std::alloc::Global;
 use std::marker::Model;
@@ -54,32 +52,11 @@ impl<E: Engine> HostState<E> {
         self.body.clock
     }
 
-    /// How many commands were accepted.
-    pub fn commands(&self) -> u64
-        ensures { result ≡ self.now.image.commands }
-    {
-        self.body.commands
-    }
-
     /// The first place, from one on, of a session that has a cue. Places are counted from 0 in the order of start.
     pub fn ready(&self, from: usize) -> Option<usize>
         ensures { result ≡ find (λ place. nat_le from place) (cued 0 self.now.image.sessions) }
     {
         self.body.ready(from)
-    }
-
-    /// The place of a session.
-    pub fn session_place(&self, name: &Word) -> Option<usize>
-        ensures { result ≡ session_place self.now.image name.now }
-    {
-        self.body.session_place(name)
-    }
-
-    /// The place of a chart.
-    pub fn chart_place(&self, name: &Word) -> Option<usize>
-        ensures { result ≡ chart_place self.now.image name.now }
-    {
-        self.body.chart_place(name)
     }
 
     /// Makes the changes that were prepared, without memory. They are taken out of what was prepared, and the answer

@@ -8,6 +8,7 @@ ghost use Rattle.sc_core.specs.Hosts.{session_named, session_place};
 ghost use Rattle.sc_law.specs.Runs.{fresh_state};
 ghost use Rattle.sc_types.specs.declared.host.HostImage.{HostImage};
 ghost use Rattle.sc_types.specs.declared.host.SessionImage.{SessionImage};
+ghost use Rattle.sc_types.specs.declared.limits.TheConstants.{INVOKE_DEPTH_LIMIT};
 ghost use Rattle.sc_types.specs.declared.session.SessionState.{SessionState};
 
 use crate::aims::birth_place;
@@ -126,7 +127,7 @@ impl<P: Drop> Body<P> {
             ≡ Some state.session
             → IsGrown (put_state (image self.now) place state) births.now h → h.charts ≡ (image self.now).charts
             → t.depth ≡ depth → result ≡ may_bear h t invocation.now.child invocation.now.chart }
-        ensures deep { result ≡ true → depth < 16 }
+        ensures deep { result ≡ true → depth < INVOKE_DEPTH_LIMIT }
     {
         self.has_chart(&invocation.chart)
             && depth < INVOKE_DEPTH_LIMIT

@@ -12,12 +12,14 @@ use std::alloc::Global;
 /// and so kept they take half the memory of an entry.
 #[derive(Debug, Drop)]
 pub(crate) enum Kept {
+    /// A post without data, whose event got this number.
     Posted {
         who: Who,
         session: Word,
         event: Word,
         number: u128,
     },
+    /// A step that neither logged nor sent.
     Stepped {
         who: Who,
         session: Word,

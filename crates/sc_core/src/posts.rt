@@ -61,8 +61,8 @@ impl<P: Drop> Body<P> {
         }
         let number = self.events + 1;
         let event = Shared::new(alloc, numbered(number, posted_event(name, pairs)?))?;
-        let reply = Reply::Posted(number);
-        Prepared::accepted(alloc, reply, Change::Queue { place, event })
+        let change = Change::Queue { place, event };
+        Ok(Prepared::accepted(alloc, Reply::Posted(number), change))
     }
 
     /// Prepares that a session is flagged, so that its next turn ends it.
@@ -84,7 +84,8 @@ impl<P: Drop> Body<P> {
         if let Phase::Ended(how) = &found.state().phase {
             return Ok(Prepared::refused(alloc, ended(alloc, how)?));
         }
-        Prepared::accepted(alloc, Reply::Cancelled, Change::Flag { place })
+        let change = Change::Flag { place };
+        Ok(Prepared::accepted(alloc, Reply::Cancelled, change))
     }
 }
 

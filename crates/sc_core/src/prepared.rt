@@ -48,21 +48,17 @@ impl<P: Drop> Prepared<P> {
 
     /// One change, and the command is counted.
     #[inline(always)]
-    pub(crate) fn accepted(
-        alloc: Global,
-        reply: Reply,
-        change: Change<P>,
-    ) -> Result<Prepared<P>, NoMemory>
-        ensures changes { IfOk result (λ p. p.changes ≡ change ∷ Change.Count ∷ []) }
-        ensures reply { IfOk result (λ p. p.reply ≡ reply) }
-        ensures logs { IfOk result (λ p. p.logs ≡ []) }
-        ensures sent { IfOk result (λ p. p.sent ≡ []) }
+    pub(crate) fn accepted(alloc: Global, reply: Reply, change: Change<P>) -> Prepared<P>
+        ensures changes { result.changes ≡ change ∷ Change.Count ∷ [] }
+        ensures reply { result.reply ≡ reply }
+        ensures logs { result.logs ≡ [] }
+        ensures sent { result.sent ≡ [] }
     {
-        Ok(Prepared {
+        Prepared {
             changes: ChangeList::one(alloc, change),
             reply,
             logs: BoxedSequence::empty(),
             sent: Sequence::new(alloc),
-        })
+        }
     }
 }

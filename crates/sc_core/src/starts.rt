@@ -81,7 +81,7 @@ impl<P: Drop> Body<P> {
             name: name.copy()?,
             chart: Boxed::new(alloc, chart)?,
         };
-        Prepared::accepted(alloc, Reply::Installed, change)
+        Ok(Prepared::accepted(alloc, Reply::Installed, change))
     }
 
     /// Prepares that a session is started.
@@ -116,7 +116,7 @@ impl<P: Drop> Body<P> {
             name: session.copy()?,
             session: fresh_session(alloc, session, chart)?,
         };
-        Prepared::accepted(alloc, Reply::Started, change)
+        Ok(Prepared::accepted(alloc, Reply::Started, change))
     }
 }
 

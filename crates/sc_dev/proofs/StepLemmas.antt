@@ -1,13 +1,13 @@
 -- What a call of a disk in memory does to the images that a stop may leave.
-use Rattle.std.proofs.Common.{◌≡◌, ◌⊎◌, inl, inr, ℕ, zero, suc, ◌≤◌, List, [], ◌∷◌, length, take, drop, refl, sym, ◌∙◌, ap, subst, arith}
+use Rattle.std.proofs.Common.{◌≡◌, ◌⊎◌, inl, inr, ℕ, zero, suc, ◌≤◌, List, [], ◌∷◌, length, refl, sym, ◌∙◌, ap, subst, arith}
 use Rattle.sc_dev.specs.declared.disk.Part.{Part}
 use Rattle.sc_dev.specs.declared.disk.Part.TheVariants.{Journal, SlotA, SlotB}
 use Rattle.sc_dev.specs.Causes.{risen}
-use Rattle.sc_dev.specs.Disks.{DiskOf, Torn, Fits, Follows, Within, part_of}
+use Rattle.sc_dev.specs.Disks.{DiskOf, Torn, Fits, Follows, Within}
 use Rattle.sc_dev.specs.Histories.{Done, History, passed, wrote, lost, synced, bytes_after, LeavesAfter, read_bytes, MayLeave, furthest_in}
 use Rattle.sc_dev.specs.MemDisks.{PartsOf, PartsFit, MemDiskOf, PartsLeave, MightHaveLeft, with_call, parts_read, parts_ago, calls_made, moment_of}
-use Rattle.sc_dev.specs.MemDiskFacts.{leaves-read, torn-same}
-use Rattle.sc_dev.specs.Ranges.{length-put_over, torn-put_over, put_over-stands}
+use Rattle.sc_dev.specs.MemDiskFacts.{leaves-read}
+use Rattle.sc_dev.specs.Ranges.{length-put_over, torn-put_over}
 use Rattle.sc_dev.specs.Steps.{Steps}
 
 length-bytes : (first : List ℕ) (calls : List Done) → length (bytes_after first calls) ≤ furthest_in (length first) calls
@@ -94,23 +94,6 @@ steps-past old new is later fit = record {
     keeps t c le (inl now) = inl (omega (arith, le, same, later), subst (λ (p : PartsOf). PartsLeave p c) (sym is) now.1)
     keeps t c le (inr then) = inr (then.0, omega (arith, then.1, same), subst (λ (p : PartsOf). PartsLeave (parts_ago then.0 p) c) (sym is) then.2)
 
--- a call that changed nothing
-pub passed-read : (part : Part) (p : PartsOf) → parts_read (with_call part passed p) ≡ parts_read p
-passed-read Journal p = refl
-passed-read SlotA p = refl
-passed-read SlotB p = refl
-
-pub passed-leaves : (part : Part) (p : PartsOf) → Within (PartsLeave p) (PartsLeave (with_call part passed p))
-passed-leaves Journal p c left = record { journal = left.journal; slot_a = left.slot_a; slot_b = left.slot_b }
-passed-leaves SlotA p c left = record { journal = left.journal; slot_a = left.slot_a; slot_b = left.slot_b }
-passed-leaves SlotB p c left = record { journal = left.journal; slot_a = left.slot_a; slot_b = left.slot_b }
-
--- a sync
-pub synced-read : (part : Part) (p : PartsOf) → parts_read (with_call part synced p) ≡ parts_read p
-synced-read Journal p = refl
-synced-read SlotA p = refl
-synced-read SlotB p = refl
-
 read-back : (h : History) (c : List ℕ) → c ≡ read_bytes h → MayLeave h c
 read-back h c is = subst (MayLeave h) (sym is) (leaves-read h.first h.calls)
 
@@ -118,19 +101,6 @@ pub synced-leaves : (part : Part) (p : PartsOf) → Within (PartsLeave p) (Parts
 synced-leaves Journal p c left = record { journal = read-back p.journal c.journal left.journal; slot_a = left.slot_a; slot_b = left.slot_b }
 synced-leaves SlotA p c left = record { journal = left.journal; slot_a = read-back p.slot_a c.slot_a left.slot_a; slot_b = left.slot_b }
 synced-leaves SlotB p c left = record { journal = left.journal; slot_a = left.slot_a; slot_b = read-back p.slot_b c.slot_b left.slot_b }
-
-pub synced-durable : (part : Part) (p : PartsOf) (c : DiskOf) → PartsLeave (with_call part synced p) c
-    → part_of part c ≡ part_of part (parts_read (with_call part synced p))
-synced-durable Journal p c left = left.journal
-synced-durable SlotA p c left = left.slot_a
-synced-durable SlotB p c left = left.slot_b
-
--- a write
-pub wrote-stands : (part : Part) (at : ℕ) (piece : List ℕ) (p : PartsOf)
-    → take (length piece) (drop at (part_of part (parts_read (with_call part (wrote at piece) p)))) ≡ piece
-wrote-stands Journal at piece p = put_over-stands at piece (read_bytes p.journal)
-wrote-stands SlotA at piece p = put_over-stands at piece (read_bytes p.slot_a)
-wrote-stands SlotB at piece p = put_over-stands at piece (read_bytes p.slot_b)
 
 pub wrote-read : (part : Part) (at : ℕ) (piece : List ℕ) (p : PartsOf)
     → Torn part at (length piece) (parts_read p) (parts_read (with_call part (wrote at piece) p))
@@ -144,20 +114,8 @@ wrote-leaves Journal at piece p c left = (record c { journal = left.journal.0 },
 wrote-leaves SlotA at piece p c left = (record c { slot_a = left.slot_a.0 }, record { journal = left.journal; slot_a = left.slot_a.1; slot_b = left.slot_b }, record { others = refl; range = left.slot_a.2 })
 wrote-leaves SlotB at piece p c left = (record c { slot_b = left.slot_b.0 }, record { journal = left.journal; slot_a = left.slot_a; slot_b = left.slot_b.1 }, record { others = refl; range = left.slot_b.2 })
 
--- a write that failed
-pub lost-read : (part : Part) (at n : ℕ) (p : PartsOf) → parts_read (with_call part (lost at n) p) ≡ parts_read p
-lost-read Journal at n p = refl
-lost-read SlotA at n p = refl
-lost-read SlotB at n p = refl
-
 pub lost-leaves : (part : Part) (at n : ℕ) (p : PartsOf)
     → Follows (Torn part at n) (PartsLeave p) (PartsLeave (with_call part (lost at n) p))
 lost-leaves Journal at n p c left = (record c { journal = left.journal.0 }, record { journal = left.journal.1; slot_a = left.slot_a; slot_b = left.slot_b }, record { others = refl; range = left.journal.2 })
 lost-leaves SlotA at n p c left = (record c { slot_a = left.slot_a.0 }, record { journal = left.journal; slot_a = left.slot_a.1; slot_b = left.slot_b }, record { others = refl; range = left.slot_a.2 })
 lost-leaves SlotB at n p c left = (record c { slot_b = left.slot_b.0 }, record { journal = left.journal; slot_a = left.slot_a; slot_b = left.slot_b.1 }, record { others = refl; range = left.slot_b.2 })
-
--- and whatever was torn may also not have been
-pub same-torn : (part : Part) (at n : ℕ) (d : DiskOf) → Torn part at n d d
-same-torn Journal at n d = record { others = refl; range = torn-same at n d.journal }
-same-torn SlotA at n d = record { others = refl; range = torn-same at n d.slot_a }
-same-torn SlotB at n d = record { others = refl; range = torn-same at n d.slot_b }

@@ -1,4 +1,4 @@
--- How a disk in memory counts its calls and the bytes written.
+-- How a disk in memory counts its calls and the bytes written. This host's own rule, for private clauses.
 use Rattle.std.specs.Prelude.{◌≡◌, ◌<◌, ◌≤◌}
 use Rattle.sc_dev.specs.declared.mem_disk.MemDisk.TheInside.{Inside}
 use Rattle.sc_dev.specs.MemDisks.{MemDiskOf, calls_made, all_written}

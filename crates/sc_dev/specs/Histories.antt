@@ -25,7 +25,8 @@ after_call call h = record h { calls = call ∷ h.calls }
 
 -- the piece at its place, after zeros where the bytes end before it
 abbrev pub put_over : ℕ → List ℕ → List ℕ → List ℕ
-put_over at piece bytes = take at (bytes ++ replicate (at - length bytes) 0) ++ (piece ++ drop (at + length piece) bytes)
+put_over at piece bytes = take at (bytes ++ replicate (at - length bytes) 0)
+    ++ (piece ++ drop (at + length piece) bytes)
 
 abbrev pub bytes_after : List ℕ → List Done → List ℕ
 bytes_after first [] = first

@@ -8,14 +8,27 @@ use Rattle.sc_dev.specs.Ranges.{torn-put_over}
 
 -- nothing may have been torn
 pub torn-same : (at n : ℕ) (bytes : List ℕ) → IsTorn at n bytes bytes
-torn-same at n bytes = record { before = take_min at bytes; after = refl; no_shorter = omega arith; no_longer = omega arith }
+torn-same at n bytes = record {
+  before = take_min at bytes;
+  after = refl;
+  no_shorter = omega arith;
+  no_longer = omega arith;
+}
 
 -- what reads give may be left
 pub leaves-read : (first : List ℕ) (calls : List Done) → LeavesAfter first calls (bytes_after first calls)
 leaves-read first [] = refl
 leaves-read first (passed ∷ calls) = leaves-read first calls
-leaves-read first (wrote at piece ∷ calls) = (bytes_after first calls, leaves-read first calls, torn-put_over at piece (bytes_after first calls))
-leaves-read first (lost at n ∷ calls) = (bytes_after first calls, leaves-read first calls, torn-same at n (bytes_after first calls))
+leaves-read first (wrote at piece ∷ calls) = (
+  bytes_after first calls,
+  leaves-read first calls,
+  torn-put_over at piece (bytes_after first calls),
+)
+leaves-read first (lost at n ∷ calls) = (
+  bytes_after first calls,
+  leaves-read first calls,
+  torn-same at n (bytes_after first calls),
+)
 leaves-read first (synced ∷ calls) = refl
 
 pub parts_stand : (p : PartsOf) → PartsLeave p (parts_read p)
@@ -34,7 +47,8 @@ pub since_now : (d : MemDiskOf) (t : ℕ) (c : DiskOf) → t ≤ moment_of d →
 since_now d t c le now = inl (le, now)
 
 -- since this moment, only what may be left now
-pub since_only : (d : MemDiskOf) (c : DiskOf) → moment_of d < 2 ^ 64 - 1 → MightHaveLeft d (moment_of d) c → PartsLeave d.parts c
+pub since_only : (d : MemDiskOf) (c : DiskOf) → moment_of d < 2 ^ 64 - 1 → MightHaveLeft d (moment_of d) c
+    → PartsLeave d.parts c
 since_only d c below (inl now) = now.1
 since_only d c below (inr then) =
     let none : then.0 ≡ 0 = omega (arith, then.1) in

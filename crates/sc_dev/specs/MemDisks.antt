@@ -33,11 +33,6 @@ with_call SlotB call p = record p {
   slot_b = after_call call p.slot_b;
 }
 
-abbrev pub history_of_part : Part → PartsOf → History
-history_of_part Journal p = p.journal
-history_of_part SlotA p = p.slot_a
-history_of_part SlotB p = p.slot_b
-
 -- what reads give
 abbrev pub parts_read : PartsOf → DiskOf
 parts_read p = record {
@@ -150,5 +145,8 @@ write_goes_well d at n = has_room d at n && goes_well d
 -- A write past a room changes nothing; of one that is among those that fail, the range may hold any bytes.
 abbrev pub after_write_at : Part → ℕ → List ℕ → MemDiskOf → MemDiskOf
 after_write_at part at piece d = if is_past d || not (has_room d at (length piece)) then refused d
-    else (if is_named d then record d { parts = with_call part (lost at (length piece)) d.parts; faults = risen d.faults }
+    else (if is_named d then record d {
+      parts = with_call part (lost at (length piece)) d.parts;
+      faults = risen d.faults;
+    }
     else made part (wrote at piece) d)

@@ -1,4 +1,5 @@
--- How a part of a disk in memory keeps its history: the bytes now, the calls, and the bytes that writes replaced.
+-- How a part of a disk in memory keeps its history: the bytes now, the calls, and the bytes that writes replaced. This
+-- host's own rule, for private clauses.
 use Rattle.std.specs.Prelude.{◌≡◌, ℕ, ◌+◌, ◌-◌, ◌≤◌, min, List, [], ◌∷◌, ◌++◌, length, take, drop, reverse, vec_len, vec_capacity, All}
 use Rattle.sc_dev.specs.declared.mem_part.Change.{Change}
 use Rattle.sc_dev.specs.declared.mem_part.Change.TheVariants.{Passed, Wrote, Lost, Synced}

@@ -1,4 +1,5 @@
--- How a disk in memory keeps its three parts: every call is one in each part.
+-- How a disk in memory keeps its three parts: every call is one in each part. This host's own rule, for private
+-- clauses.
 use Rattle.std.specs.Prelude.{◌≡◌, length}
 use Rattle.sc_dev.specs.declared.mem_parts.MemParts.TheInside.{Inside}
 use Rattle.sc_dev.specs.MemDisks.{PartsOf, PartsFit}

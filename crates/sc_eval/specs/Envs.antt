@@ -1,4 +1,4 @@
--- An environment as the definitions see it.
+-- An environment as the definitions see it. This host's own rule.
 use Rattle.std.specs.Prelude.{List, [], ◌∷◌, ℕ, ◌<◌}
 use Rattle.std.specs.Arc.{arc_value}
 use Rattle.sc_law.specs.Runs.{Env as PlainEnv}

@@ -1,4 +1,4 @@
--- What an evaluation answers: this value or fault, or that the memory did not suffice.
+-- What an evaluation answers: this value or fault, or that memory is out. This host's own rule.
 use Rattle.std.specs.Prelude.{◌≡◌, ◌≢◌, Err, Ok, Result}
 use Rattle.sc_types.specs.declared.eval_fault.EvalFault.{EvalFault}
 use Rattle.sc_types.specs.declared.eval_fault.EvalFault.TheVariants.{NoMemory}

@@ -1,4 +1,4 @@
--- Equality of lists, item by item.
+-- Equality of lists, item by item; for private clauses.
 use Rattle.std.specs.Prelude.{Bool, List, [], false, true, ◌&&◌, ◌∷◌}
 use Rattle.sc_types.specs.declared.value.Value.{Value}
 use Rattle.sc_law.specs.Evaluation.{same_value}

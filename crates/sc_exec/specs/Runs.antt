@@ -1,4 +1,5 @@
--- A session in the middle of a turn as the definitions see it, and how a program's answer tells an outcome.
+-- A session in the middle of a turn as the definitions see it, and how a program's answer tells an outcome. This host's
+-- own rule.
 use Rattle.std.specs.Prelude.{◌≡◌, Err, List, Ok, Result, ℕ}
 use Rattle.sc_base.specs.declared.failure.Failure.{Failure}
 use Rattle.sc_base.specs.declared.failure.Failure.TheVariants.{Fault, NoMemory}

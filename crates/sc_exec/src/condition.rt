@@ -16,7 +16,8 @@ use std::alloc::Global;
 #[tactic(auto, unfolding(sc_law::specs::Outcomes::holds))]
 pub fn holds(alloc: Global, run: &mut Running, condition: Option<&Expr>) -> Result<bool, NoMemory>
     requires { HasIds run.old.env }
-    ensures ok { IfOk result (λ b. holds (option_copied condition.entry) (running_of run.old) ≡ (b, running_of run.new)) }
+    ensures ok { IfOk result (λ b. holds (option_copied condition.entry) (running_of run.old)
+        ≡ (b, running_of run.new)) }
     ensures kept { KeepsRows run.old run.new }
 {
     let Some(code) = condition else {

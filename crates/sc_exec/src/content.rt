@@ -81,7 +81,8 @@ fn element(alloc: Global, run: &mut Running, node: &Node) -> Result<(), Failure<
 #[tactic(auto, using(crate::proofs::Kept::keeping))]
 fn choice(alloc: Global, run: &mut Running, node: &Node) -> Result<(), Failure<SharedBytes>>
     requires { HasIds run.old.env }
-    ensures outcome { Does result run.new (choice (members_of node.now) (map part (kids node.now)) (running_of run.old)) }
+    ensures outcome { Does result run.new (choice (members_of node.now) (map part (kids node.now))
+        (running_of run.old)) }
     ensures kept { KeepsRows run.old run.new }
 {
     let kids = node.kids.slice();
@@ -105,7 +106,8 @@ fn choice(alloc: Global, run: &mut Running, node: &Node) -> Result<(), Failure<S
 #[tactic(auto, using(crate::proofs::Kept::keeping))]
 fn for_each(alloc: Global, run: &mut Running, node: &Node) -> Result<(), Failure<SharedBytes>>
     requires { HasIds run.old.env }
-    ensures outcome { Does result run.new (for_each (members_of node.now) (map part (kids node.now)) (running_of run.old)) }
+    ensures outcome { Does result run.new (for_each (members_of node.now) (map part (kids node.now))
+        (running_of run.old)) }
     ensures kept { KeepsRows run.old run.new }
 {
     match needed(alloc, &run.env, node, Attribute::Array)? {

@@ -62,7 +62,8 @@ fn put_param(
     pairs: &mut PairList,
 ) -> Result<(), NoMemory>
     requires { HasIds run.old.env }
-    ensures ok { OnOk result ((pairs.new, running_of run.new) ≡ param (members_of node.now) (pairs.old, running_of run.old)) }
+    ensures ok { OnOk result ((pairs.new, running_of run.new)
+        ≡ param (members_of node.now) (pairs.old, running_of run.old)) }
     ensures kept { KeepsRows run.old run.new }
 {
     match param_value(alloc, &run.env, node)? {
@@ -84,7 +85,8 @@ fn is_param(node: &Node) -> bool
 #[tactic(auto, using(crate::proofs::Kept::keeping))]
 pub fn params(alloc: Global, run: &mut Running, kids: &[Node]) -> Result<PairList, NoMemory>
     requires { HasIds run.old.env }
-    ensures ok { IfOk result (λ pairs. (pairs, running_of run.new) ≡ params_of (map child_of kids.now) (running_of run.old)) }
+    ensures ok { IfOk result (λ pairs. (pairs, running_of run.new)
+        ≡ params_of (map child_of kids.now) (running_of run.old)) }
     ensures kept { KeepsRows run.old run.new }
 {
     let mut pairs = Sequence::new(alloc);
@@ -99,7 +101,8 @@ pub fn params(alloc: Global, run: &mut Running, kids: &[Node]) -> Result<PairLis
 /// One that has no value is the empty text, and `error.execution` is enqueued. SCXML 5.6.
 fn content(alloc: Global, run: &mut Running, node: &Node) -> Result<Data, NoMemory>
     requires { HasIds run.old.env }
-    ensures ok { IfOk result (λ found. (found, running_of run.new) ≡ content_of (members_of node.now) (running_of run.old)) }
+    ensures ok { IfOk result (λ found. (found, running_of run.new)
+        ≡ content_of (members_of node.now) (running_of run.old)) }
     ensures kept { KeepsRows run.old run.new }
 {
     let Some(code) = node.expr(Attribute::Expr) else {

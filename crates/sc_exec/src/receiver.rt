@@ -40,7 +40,8 @@ fn first_of_id<'a>(invokes: &'a [Invoked], id: &[u8]) -> Option<&'a Invoked>
 
 fn earlier_of<'a>(first: Option<&'a Invoked>, invoke: &'a Invoked) -> Option<&'a Invoked>
     ensures { option_copied result
-        ≡ Some (option_map_or (λ j. if is_earlier j invoke.now then j else invoke.now) (option_copied first.entry) invoke.now) }
+        ≡ Some (option_map_or (λ j. if is_earlier j invoke.now then j else invoke.now)
+        (option_copied first.entry) invoke.now) }
 {
     match first {
         Some(other) if is_earlier(other, invoke) => Some(other),

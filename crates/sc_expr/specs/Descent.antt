@@ -1,5 +1,6 @@
--- How the reader descends: each level of the grammar as a function from the tokens that are ahead. Only contracts of
--- private functions cite it; the public ones speak of the grammar.
+-- How the reader descends: each level of the grammar as a function from the tokens that are ahead. `expr_of` is defined
+-- by it, and `read_expr` promises that this is the grammar's reading, so nobody has to believe it. This host's own
+-- rule.
 use Rattle.std.specs.Prelude.{ℕ, zero, suc, ◌+◌, ◌-◌, ◌==◌, ◌&&◌, Bool, true, false, nat_le, nat_lt, if◌then◌else◌, Option, Some, None, option_map, option_and_then, List, [], ◌∷◌, length, find, codes}
 use Rattle.std.specs.Str.{bytes_eq}
 use Rattle.sc_types.specs.Expressions.{depth, looseness, repeats, field_text}

@@ -1,4 +1,5 @@
--- How the texts of expressions are read. `read_expr` says that this is the grammar's reading.
+-- How the texts of expressions are read, as a function for the definitions that stand on it. `read_expr` promises that
+-- this is the grammar's reading, so nobody has to believe it. This host's own rule.
 use Rattle.std.specs.Prelude.{ℕ, Option, List, false}
 use Rattle.sc_types.specs.Profiles.{Profile}
 use Rattle.sc_types.specs.Tokens.{tokens}

@@ -1,4 +1,5 @@
--- How a journal keeps what is in doubt: the buffer has the length, the body and the closed gate of the last entry.
+-- How a journal keeps what is in doubt: the buffer has the length, the body and the closed gate of the last entry. This
+-- host's own rule, for private clauses.
 use Rattle.std.specs.Prelude.{ℕ, ◌+◌, ◌-◌, ◌^◌, ◌<◌, ◌≤◌, Bool, true, false, Option, None, Some, List, length, take, drop, vec_capacity}
 use Rattle.sc_journal.specs.declared.journal.Journal.TheInside.{Inside}
 use Rattle.sc_journal.specs.Journals.{JournalOf}

@@ -332,6 +332,3 @@ first_fault c (path ∷ paths) = option_map_or Some (fault_at c path) (first_fau
 
 unfoldable pub legal_fault : Chart → Option ChartFault
 legal_fault c = first_fault c (elements c)
-
-abbrev pub is_legal : Chart → Bool
-is_legal c = is_none (legal_fault c)

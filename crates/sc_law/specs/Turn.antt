@@ -11,6 +11,7 @@ use Rattle.sc_types.specs.declared.event.Data.{Data}
 use Rattle.sc_types.specs.declared.event.Data.TheVariants.{Absent}
 use Rattle.sc_types.specs.declared.event.Event.{Event}
 use Rattle.sc_types.specs.declared.history.LogLine.{LogLine}
+use Rattle.sc_types.specs.declared.limits.TheConstants.{DEFAULT_ROUNDS}
 use Rattle.sc_types.specs.declared.session.Cue.{Cue}
 use Rattle.sc_types.specs.declared.session.Cue.TheVariants.{Cancel, External, Fresh, Resume}
 use Rattle.sc_types.specs.declared.session.How.TheVariants as how
@@ -95,9 +96,9 @@ unfoldable pub settle : Chart → ℕ → RunState → Bool × RunState
 settle c zero x = out_of_rounds (next c x)
 settle c (suc rounds) x = go_on (settle c rounds) (next c x)
 
--- without a `limit` a turn has a thousand rounds
+-- the rounds that a turn may have
 abbrev pub round_limit : Chart → ℕ
-round_limit c = option_map_or (digits_value 10) (text_at attribute.Limit c.root) 1000
+round_limit c = option_map_or (digits_value 10) (text_at attribute.Limit c.root) DEFAULT_ROUNDS
 
 -- what expressions read at the beginning of a turn; without a `name` the chart has the empty one
 abbrev pub begin_env : Chart → SessionState → Env

@@ -1,15 +1,13 @@
 -- States are exited one after another.
 use Rattle.std.proofs.Common.{◌≡◌, ℕ, ◌+◌, ◌≤◌, ◌==◌, ◌||◌, nat_le, not, Bool, true, false, Some, None, List, [], ◌∷◌, ◌++◌, find, filter, append-nil, append_assoc, refl, arith, ap, sym, ◌∙◌}
 use Rattle.std.proofs.lemmas.Bool.Decides.{nat_tests}
-use Rattle.std.proofs.lemmas.List.{reverse-append}
 use Rattle.sc_base.specs.Ascending.{without}
-use Rattle.sc_base.specs.Folds.{each}
 use Rattle.sc_bits.specs.Rows.{IsAscending}
 use Rattle.sc_types.specs.declared.chart.Chart.{Chart}
 use Rattle.sc_types.specs.declared.chart.Tag.TheVariants as tag
 use Rattle.sc_law.specs.Content.{run_blocks}
 use Rattle.sc_law.specs.Data.{with_tag}
-use Rattle.sc_law.specs.Leaving.{cancelled, leave, leave_all, removed}
+use Rattle.sc_law.specs.Leaving.{cancelled, leave, removed}
 use Rattle.sc_law.specs.Runs.{Running, with_configuration}
 use Rattle.sc_law.specs.Tree.{kids_of}
 use Rattle.sc_sets.proofs.BelowSets.{filter_same}
@@ -36,12 +34,6 @@ unfolding leave
 left-is c s r ran done ms a b e =
     ap (λ ns. with_configuration ns done) (e ∙ without-one s done.env.configuration)
     ∙ ap (removed s) (b ∙ ap (cancelled s) a)
-
--- the last of these states, and then those before it
-pub leave-last : (c : Chart) (states left : List ℕ) (s : ℕ) (r : Running) → states ≡ left ++ s ∷ []
-    → leave_all c left (leave c s r) ≡ leave_all c states r
-leave-last c states left s r e =
-    ap (λ ss. each (leave c) ss r) (sym (reverse-append left (s ∷ []))) ∙ ap (λ ss. leave_all c ss r) (sym e)
 
 -- one member more
 pub member-next : (old new ms : List ℕ) (w from m : ℕ) → IsAscending 0 w ms → Some m ≡ find (λ m. nat_le from m) ms

@@ -1,4 +1,4 @@
--- What a descriptor's tokens say of its bytes: see `starts_with_tokens` of proofs/Begins.antt.
+-- What a descriptor's tokens say of its bytes: see `starts_with_tokens` of proofs/BeginLemmas.antt.
 use Rattle.std.specs.Prelude.{ℕ, ◌&&◌, Bool, true, nat_eq, List, [], ◌∷◌, length, drop}
 use Rattle.std.specs.List.{starts_with}
 use Rattle.sc_types.specs.Descriptors.{is_dot}

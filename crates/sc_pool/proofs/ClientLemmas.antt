@@ -1,11 +1,10 @@
 -- The clients of a pool.
-use Rattle.std.proofs.Common.{◌≡◌, ℕ, zero, suc, ◌+◌, ◌<◌, true, false, Option, None, Some, List, [], ◌∷◌, ◌++◌, length, inl, inr, length-set, append_assoc, refl, sym, ap, ◌∙◌, subst, arith}
+use Rattle.std.proofs.Common.{◌≡◌, ℕ, zero, suc, ◌+◌, ◌<◌, true, false, Option, Some, List, [], ◌∷◌, ◌++◌, length, inl, inr, length-set, append_assoc, refl, sym, ap, ◌∙◌, subst, arith}
 use Rattle.std.specs.Prelude.{slice_get, slice_set}
 use Rattle.sc_types.specs.declared.command.Command.{Command}
-use Rattle.std.specs.Option.{option_map_or}
 use Rattle.std.proofs.lemmas.Option.{slice_get_within}
 use Rattle.std.proofs.lemmas.Bool.{cases_eq, true≢false}
-use Rattle.sc_pool.specs.Clients.{HasMet, HasNone, IsMade, KeepsMade, Marks, Takes, TakesNext, left_at}
+use Rattle.sc_pool.specs.Clients.{HasMet, HasNone, IsMade, KeepsMade, Marks, Takes, TakesNext}
 use Rattle.sc_pool.specs.Keeping.{Follows, IsFree, clients_from}
 use Rattle.sc_pool.specs.Plans.{script_of}
 use Rattle.sc_pool.specs.declared.client.Client.{Client}
@@ -75,18 +74,6 @@ took_keeps old new place number c t =
     λ is free. absurd (cons_not_nil c t.rest (sym t.left ∙ is t.free)) in
     subst (KeepsMade old) (sym t.set) (made_after old place t.client (record t.client { left = t.rest }) t.there goes)
 
-pub took_less : (old new : List Client) (place number : ℕ) (c : Command) → TakesNext place number c old new
-    → left_at new place < left_at old place
-took_less old new place number c t =
-    let after : left_at new place ≡ length t.rest =
-    ap (λ (cs : List Client). left_at cs place) t.set
-    ∙ ap (λ o. option_map_or (λ (client : Client). length client.left) o 0)
-    (get_set_same old place t.client (record t.client { left = t.rest }) t.there) in
-    let before : left_at old place ≡ length t.client.left =
-    ap (λ o. option_map_or (λ (client : Client). length client.left) o 0) t.there in
-    let longer : length t.client.left ≡ suc (length t.rest) = ap (λ (cs : List Command). length cs) t.left in
-    omega (arith, after, before, longer)
-
 -- a client is marked
 
 pub marked_keeps : (old new : List Client) (place : ℕ) → Marks place old new → KeepsMade old new
@@ -145,13 +132,3 @@ took_within old new place number c t =
     let longer : length new ≡ length old =
     ap (λ (cs : List Client). length cs) t.set ∙ length-set old place (record t.client { left = t.rest }) in
     omega (arith, longer, slice_get_within old place t.client t.there)
-
--- a client that has none left, or met a fault, is made
-
-pub none_made : (client : Option Client) → HasNone client → IsMade client
-none_made None none = tt
-none_made (Some client) none = λ free. none
-
-pub met_made : (client : Option Client) → HasMet client → IsMade client
-met_made None met = tt
-met_made (Some client) met = λ free. absurd (true≢false (sym met ∙ free))

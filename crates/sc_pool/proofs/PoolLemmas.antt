@@ -21,7 +21,7 @@ use Rattle.sc_core.specs.Commands.{answer}
 use Rattle.sc_core.specs.Histories.{replay}
 use Rattle.sc_book.specs.Books.{opening}
 use Rattle.sc_pool.specs.Serving.{IsPrefix, commands_of, is_of, is_served, served_by}
-use Rattle.sc_pool.specs.Sharing.{Adds, AddsStep, Fails, FailsToStep, GoesOn, IsDoubted, IsSame, IsWhy, Seen}
+use Rattle.sc_pool.specs.Sharing.{Adds, AddsStep, Fails, FailsToStep, GoesOn, IsDoubted, IsWhy, Seen}
 use Rattle.sc_pool.specs.declared.client.Client.{Client}
 use Rattle.sc_pool.proofs.ClientLemmas.{begun, free, get_set_other, get_set_same}
 use Rattle.sc_pool.proofs.ServingLemmas.{all_served-more, commands_of-other, commands_of-own, no_client, no_step_next, other_client, same_client, steps-more, steps-none}
@@ -433,48 +433,6 @@ worker_failed p old new clients noted fault worst k f goes is =
       silent = λ none. absurd (some_not_none worst none);
       sure = sure_now p old new who.Worker (Step f.session) noted fault worst k.sure f.fails.why is;
     }
-
--- nothing was made
-pub nothing_made : (p : Planned) (old new : Seen) (clients : List Client) (worst : Option CallFault) → Keeps p old clients worst
-    → IsSame old new → GoesOn old new → Keeps p new clients worst
-nothing_made p old new clients worst k s goes =
-    let d = no_more p k.fresh old new k.doubtful k.doubts k.placed s.doubts in
-    record {
-      no_step = k.no_step;
-      fresh = k.fresh;
-      begins = s.entries ∙ k.begins;
-      follow = k.follow;
-      setup = k.setup;
-      served = k.served;
-      within = omega (arith, k.within, ap accepted_steps s.entries);
-      doubtful = d.doubtful;
-      doubts = d.doubts;
-      placed = d.placed;
-      goes_on = goes_then p.start old new k.goes_on goes;
-      shown = shown_later p.start old new worst k.shown goes;
-      silent = k.silent;
-      sure = λ low. s.doubts ∙ k.sure low;
-    }
-
--- and memory was wanting
-pub without_memory : (p : Planned) (seen : Seen) (clients : List Client) (worst : Option CallFault) → Keeps p seen clients worst
-    → Keeps p seen clients (Some NoMemory)
-without_memory p seen clients worst k = record {
-  no_step = k.no_step;
-  fresh = k.fresh;
-  begins = k.begins;
-  follow = k.follow;
-  setup = k.setup;
-  served = k.served;
-  within = k.within;
-  doubtful = k.doubtful;
-  doubts = k.doubts;
-  placed = k.placed;
-  goes_on = k.goes_on;
-  shown = tt;
-  silent = λ none. absurd (some_not_none NoMemory none);
-  sure = λ low. absurd (omega (arith, low));
-}
 
 -- a pool begins
 pub begins_with : (p : Planned) (seen : Seen) (clients : List Client) (budget : ℕ) → HaveNoStep p.scripts → StartsAt p.start seen

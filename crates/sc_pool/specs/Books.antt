@@ -8,7 +8,8 @@ use Rattle.sc_journal.specs.Journals.{IsFull}
 use Rattle.sc_pool.specs.Sharing.{Seen}
 
 -- its journal lacks room for some command where it has none for the longest
-abbrev pub seen_of : {D : Type 0} → Type 0 → (D → DiskOf → Type 0) → (D → ℕ → DiskOf → Type 0) → (D → ℕ) → (D → ℕ) → (D → ℕ)
+abbrev pub seen_of : {D : Type 0} → Type 0 → (D → DiskOf → Type 0) → (D → ℕ → DiskOf → Type 0) → (D → ℕ) → (D → ℕ)
+    → (D → ℕ)
     → BookOf D → Seen
 seen_of tells may_leave may_have_left moment faults identity b = record {
   opened = b.opened;

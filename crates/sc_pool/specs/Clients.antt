@@ -49,7 +49,8 @@ AllMade clients = (place : ℕ) → IsMade (slice_get clients place)
 
 -- a client that has made all of its commands, or met a fault, goes on so
 abbrev pub KeepsMade : List Client → List Client → Type 0
-KeepsMade old new = (length new ≡ length old) × ((place : ℕ) → IsMade (slice_get old place) → IsMade (slice_get new place))
+KeepsMade old new = (length new ≡ length old)
+    × ((place : ℕ) → IsMade (slice_get old place) → IsMade (slice_get new place))
 
 -- how many commands the client at a place has still to make
 abbrev pub left_at : List Client → ℕ → ℕ

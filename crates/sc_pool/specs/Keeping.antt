@@ -89,6 +89,7 @@ pub record IsWorst (noted : Option CallFault) (fault worst : CallFault) : Type 0
 -- what a step that is left to make does
 abbrev pub StepsOnce : ℕ → Progress → Progress → Round → Type 0
 StepsOnce budget old new round.Made =
-    (accepted_steps new.entries ≡ accepted_steps old.entries + 1) × (accepted_steps old.entries < budget) × (new.worst ≡ old.worst)
+    (accepted_steps new.entries ≡ accepted_steps old.entries + 1) × (accepted_steps old.entries < budget)
+    × (new.worst ≡ old.worst)
 StepsOnce budget old new round.Nothing = IsSpent budget new
 StepsOnce budget old new round.Failed = is_some new.worst ≡ true

@@ -51,9 +51,10 @@ pub record IsPlaced (p : Planned) (fresh : List Entry) (d : Doubt) : Type 0 wher
   pub accepted : (past : List Command) → p.start.stands past
       → is_accepted (answer (replay (opening past) (p.start.entries ++ front)) d.command).reply ≡ true
 
--- What the clients and workers leave, by the worst fault that they met: entries were added, of each client the first commands of its list in
--- order, and of workers accepted steps, within the budget. Without a fault each list is made whole, and where a session is
--- ready still, the steps are used up. No command is in doubt unless the disk failed, or memory was wanting.
+-- What the clients and workers leave, by the worst fault that they met: entries were added, of each client the first
+-- commands of its list in order, and of workers accepted steps, within the budget. Without a fault each list is made
+-- whole, and where a session is ready still, the steps are used up. No command is in doubt unless the disk failed, or
+-- memory was wanting.
 pub record Finished (p : Planned) (now : Seen) (worst : Option CallFault) : Type 0 where
   pub fresh : List Entry
   pub begins : now.entries ≡ p.start.entries ++ fresh

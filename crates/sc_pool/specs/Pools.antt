@@ -56,9 +56,9 @@ abbrev pub rank_of : Option CallFault → ℕ
 rank_of None = 0
 rank_of (Some fault) = rank fault
 
--- What the jobs of a pool leave of a host that began like this one, by the worst fault that they met: entries that serve the
--- script in part, with accepted steps within the budget. Without a fault they serve it, and where a session is ready still,
--- the steps are used up. No command is in doubt unless the disk failed, or memory was wanting.
+-- What the jobs of a pool leave of a host that began like this one, by the worst fault that they met: entries that
+-- serve the script in part, with accepted steps within the budget. Without a fault they serve it, and where a session
+-- is ready still, the steps are used up. No command is in doubt unless the disk failed, or memory was wanting.
 pub record Ran (s : Script) (budget : ℕ) (start now : Seen) (worst : Option CallFault) : Type 0 where
   pub fresh : List Entry
   pub begins : now.entries ≡ start.entries ++ fresh

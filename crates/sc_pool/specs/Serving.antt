@@ -59,7 +59,8 @@ pub record Serves (s : Script) (history : List Entry) : Type 0 where
   pub setup : IsTrue (is_setup_first history)
   pub others : IsTrue (list_all is_served history)
 
--- The same as far as it goes: the first commands of each client, and no other client makes one unless the set-up is whole.
+-- The same as far as it goes: the first commands of each client, and no other client makes one unless the set-up is
+-- whole.
 pub record ServesInPart (s : Script) (history : List Entry) : Type 0 where
   pub lists : (n : ℕ) → IsPrefix (commands_of (Client n) history) (list_of s n)
   pub setup_whole : IsTrue (list_any is_of_later history) → commands_of (Client 0) history ≡ s.setup

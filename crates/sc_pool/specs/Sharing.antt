@@ -14,9 +14,9 @@ use Rattle.sc_core.specs.Accepted.{is_accepted, is_accepted_step}
 use Rattle.sc_core.specs.Commands.{answer}
 use Rattle.sc_core.specs.Histories.{replay}
 
--- What is seen of a host: how many commands its journal held at the opening, its history and the commands in doubt, whether
--- a session is ready, how often its disk has failed, which disk it is, whether the journal lacks room for some command, and
--- whether it goes on from the host that some commands left at its opening.
+-- What is seen of a host: how many commands its journal held at the opening, its history and the commands in doubt,
+-- whether a session is ready, how often its disk has failed, which disk it is, whether the journal lacks room for some
+-- command, and whether it goes on from the host that some commands left at its opening.
 pub record Seen : Type 1 where
   pub opened : ℕ
   pub entries : List Entry
@@ -34,6 +34,8 @@ pub record GoesOn (old new : Seen) : Type 0 where
   pub same : new.identity ≡ old.identity
   pub tight : old.tight → new.tight
   pub kept : (past : List Command) → old.stands past → new.stands past
+
+-- ---- for private clauses: what each call does
 
 -- no entry was added, and no command is in doubt that was not before
 pub record IsSame (old new : Seen) : Type 0 where

@@ -69,9 +69,12 @@ impl<'e, E: Engine, D: Disk, J: Plan> Model for Locked<'e, E, D, J> {
 
     ghost coded = { Prim.hlevel (codes, command_type.the_row.coded, entry_type.the_row.coded) };
 
-    ghost view = { λ s. progress_of (seen_of D.tells D.may_leave D.may_have_left D.moment D.faults D.identity s.book) s.clients s.worst };
+    ghost view = { λ s. progress_of
+        (seen_of D.tells D.may_leave D.may_have_left D.moment D.faults D.identity s.book) s.clients s.worst };
 
-    ghost invariant = { λ s. Keeps J.plan (seen_of D.tells D.may_leave D.may_have_left D.moment D.faults D.identity s.book) s.clients s.worst × (s.budget ≡ J.plan.budget) };
+    ghost invariant = { λ s. Keeps J.plan
+        (seen_of D.tells D.may_leave D.may_have_left D.moment D.faults D.identity s.book) s.clients s.worst
+        × (s.budget ≡ J.plan.budget) };
 }
 
 /// The worse of two faults: want of memory comes before a fault of the disk, and that before a full journal.

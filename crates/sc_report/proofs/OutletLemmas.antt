@@ -38,29 +38,10 @@ part_behind a b c s t h g = record {
 risen_more : (a b c : ℕ) → a ≤ b → Rose b c → Rose a c
 risen_more a b c less h = omega (arith, less, h)
 
-pub puts_none : (p : Seen) → Puts p p []
-puts_none p = record { same = refl; puts = λ start before h. subst (λ text. HasPut start text p) (sym (append-nil before)) h }
-
 pub puts_then : {p q r : Seen} {s t : List ℕ} → Puts p q s → Puts q r t → Puts p r (s ++ t)
 puts_then {p} {q} {r} {s} {t} h g = record {
   same = g.same ∙ h.same;
   puts = λ start before there. subst (λ text. HasPut start text r) (append_assoc before s t) (g.puts start (before ++ s) (h.puts start before there));
-}
-
-part_more : (failed : Bool) (start now : Seen) (waiting xs before : List ℕ) → now.waiting ≡ waiting ++ xs
-    → Part failed start before (record now { waiting = waiting }) → Part failed start (before ++ xs) now
-part_more false start now waiting xs before e h = record {
-  sent = h.sent;
-  taken = h.taken;
-  is = ap (λ text. text ++ xs) h.is ∙ append_assoc h.sent waiting xs ∙ ap (λ text. h.sent ++ text) (sym e);
-}
-part_more true start now waiting xs before e h = record { rose = h.rose; taken = part_of_more start.taken now.taken before xs h.taken }
-
--- Bytes were put where they wait.
-pub puts_waiting : (now : Seen) (waiting xs : List ℕ) → now.waiting ≡ waiting ++ xs → Puts (record now { waiting = waiting }) now xs
-puts_waiting now waiting xs e = record {
-  same = refl;
-  puts = λ start before h. record { later = h.later; part = part_more now.failed start now waiting xs before e h.part };
 }
 
 part_handed : (failed gone : Bool) (start old : Seen) (before : List ℕ) (taken : Option (List ℕ)) (faults : ℕ)

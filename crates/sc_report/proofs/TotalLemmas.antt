@@ -3,8 +3,7 @@ use Rattle.std.proofs.Common.{◌≡◌, ℕ, zero, suc, ◌+◌, ◌*◌, ◌<�
 use Rattle.std.specs.Prelude.{if◌then◌else◌, neg_ℤ}
 use Rattle.std.proofs.lemmas.Int.{ints}
 use Rattle.sc_types.specs.declared.host.SessionImage.{SessionImage}
-use Rattle.sc_types.specs.declared.session.SessionState.{SessionState}
-use Rattle.sc_report.specs.Summary.{counted_live, counted_of, is_drawn, total}
+use Rattle.sc_report.specs.Summary.{counted_of, total}
 
 next_at : (ss : List SessionImage) (i : ℕ) (n : ℤ) → i < length ss
     → ((s : SessionImage) → slice_get ss i ≡ Some s → n ≡ counted_of s)
@@ -31,9 +30,3 @@ stays_low k a n low fits = omega (arith, ints, low, fits)
 pub stays_high : (k : ℕ) (a n : ℤ) → (a ≤ℤ pos (k * 9223372036854775808)) → FitsSigned w64 n
     → (a +ℤ n) ≤ℤ pos ((k + 1) * 9223372036854775808)
 stays_high k a n high fits = omega (arith, ints, high, fits)
-
--- what waits in the internal queue of a session counts nothing
-pub counted_state : (s : SessionImage) (state : SessionState) → state ≡ record s.state { internal = state.internal }
-    → (if is_drawn state.session then counted_live state.phase state.values else pos 0) ≡ counted_of s
-counted_state s state e =
-    ap (λ (x : SessionState). if is_drawn x.session then counted_live x.phase x.values else pos 0) e

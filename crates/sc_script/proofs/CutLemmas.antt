@@ -29,10 +29,6 @@ first_line (b ∷ c ∷ rest) h = by (is_line_part b) (first_line (c ∷ rest) (
         rw e (ap (grow_first b) k)
     by false k = refl
 
-pub no_lines : lines [] ≡ []
-unfolding lines
-no_lines = refl
-
 -- the first line ends where a line feed stands
 pub cut_there : (text : List ℕ) (n : ℕ) → n ≡ prefix_len is_line_part text → n < length text
     → lines text ≡ take n text ∷ lines (take (length text - (n + 1)) (drop (n + 1) text))

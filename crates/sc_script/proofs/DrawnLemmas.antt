@@ -1,5 +1,5 @@
 -- The numbers that the generator draws, and the commands that they stand for.
-use Rattle.std.proofs.Common.{◌≡◌, ℕ, zero, suc, ◌+◌, ◌-◌, ◌<◌, ◌≤◌, List, [], ◌∷◌, ◌++◌, get_or, ap, sym, ◌∙◌, arith, append_assoc, append-nil}
+use Rattle.std.proofs.Common.{◌≡◌, ℕ, zero, suc, ◌+◌, ◌-◌, ◌<◌, ◌≤◌, List, [], ◌∷◌, ◌++◌, get_or, ap, sym, ◌∙◌, arith, append_assoc}
 use Rattle.std.proofs.Math.Nat.{mod-add-mod}
 use Rattle.std.proofs.lemmas.Bool.Decides.{nat_tests}
 use Rattle.std.proofs.lemmas.Str.{IsUtf8-from_ascii}
@@ -48,9 +48,3 @@ one_more setup setup' command size done x y h drawn said longer =
     ∙ ap (λ c. (setup ++ c ∷ []) ++ drawn_commands (size - (done + 1)) y) said
     ∙ ap (λ z. (setup ++ command_of z ∷ []) ++ drawn_commands (size - (done + 1)) z) drawn
     ∙ drawn_onto setup size done x h
-
--- nothing is left to be drawn
-pub all_drawn : (setup : List Command) (size done x : ℕ) → size ≤ done → setup ++ drawn_commands (size - done) x ≡ setup
-all_drawn setup size done x h =
-    let e : size - done ≡ 0 = omega arith in
-    ap (λ n. setup ++ drawn_commands n x) e ∙ append-nil setup

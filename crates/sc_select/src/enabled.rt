@@ -25,7 +25,8 @@ fn is_enabled(
     requires ids { HasIds run.old.env }
     requires tr { tr < length (transition_paths t.now) }
     ensures ok { IfOk result (λ b. (if is_match t.now (option_copied event.entry) tr
-        then holds (condition t.now tr) (running_of run.old) else (false, running_of run.old)) ≡ (b, running_of run.new)) }
+        then holds (condition t.now tr) (running_of run.old) else (false, running_of run.old))
+        ≡ (b, running_of run.new)) }
     ensures kept { KeepsRows run.old run.new }
 {
     if !is_match(t, event, tr) {

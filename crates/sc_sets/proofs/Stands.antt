@@ -46,10 +46,6 @@ pub some_empty : (xs ys : List ℕ) → (length xs == 0) ≡ false → is_empty 
 some_empty [] ys h = absurd (cc)
 some_empty (x ∷ xs) ys h = refl
 
-pub none_empty : (xs ys : List ℕ) → (length xs == 0) ≡ true → xs ++ ys ≡ ys
-none_empty [] ys h = refl
-none_empty (x ∷ xs) ys h = absurd (let l : 0 < length (x ∷ xs) = omega arith in grind (arith, nat_tests))
-
 -- what holds of the value behind a reference, where there is one
 pub each_value : (o : Option (Bor (List ℕ))) (P : List ℕ → Type 0) → ((ss : List ℕ) → option_map (λ (v : Bor (List ℕ)). v.now) o ≡ Some ss → P ss)
     → IfSome o (λ v. P v.now)

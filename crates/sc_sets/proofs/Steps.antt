@@ -1,16 +1,10 @@
 -- Steps over lists.
-use Rattle.std.proofs.Common.{◌≡◌, ℕ, ◌+◌, ◌<◌, Bool, true, false, cond, List, [], ◌∷◌, ◌++◌, length, drop, filter, get_or, refl, ap}
-use Rattle.std.proofs.lemmas.List.{drop_more}
+use Rattle.std.proofs.Common.{◌≡◌, ℕ, ◌+◌, ◌<◌, Bool, true, false, cond, List, [], ◌∷◌, ◌++◌, filter, refl}
 use Rattle.sc_base.specs.Folds.{each}
 use Rattle.sc_types.specs.declared.chart.Chart.{Chart}
 use Rattle.sc_law.specs.Entry.{EntryTriple, Enters, through}
 use Rattle.sc_law.specs.Tree.{is_below}
 use Rattle.sc_sets.specs.Steps.{passed}
-
--- a step at one place, and then at those behind it
-pub each_more : {S : Type 0} (f : ℕ → S → S) (ss : List ℕ) (i : ℕ) (e : S) → i < length ss
-    → each f (drop i ss) e ≡ each f (drop (i + 1) ss) (f (get_or ss i 0) e)
-each_more f ss i e l = ap (λ xs. each f xs e) (drop_more ss i 0 l)
 
 -- the ancestors below a limit
 pub each_passed : (c : Chart) (enters : Enters) (limit : ℕ) (ss : List ℕ) (e : EntryTriple)

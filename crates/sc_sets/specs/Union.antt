@@ -1,4 +1,5 @@
--- What the transitions of a microstep enter together, against what each enters alone. SCXML Appendix D, computeEntrySet.
+-- What the transitions of a microstep enter together, against what each enters alone. SCXML Appendix D,
+-- computeEntrySet.
 use Rattle.std.specs.Prelude.{All, List, None, [], false, true, ℕ, ◌∷◌, ◌≡◌}
 use Rattle.std.specs.List.{AllPairs}
 use Rattle.sc_base.specs.Ascending.{contains, joined}

@@ -50,10 +50,6 @@ next-parent paths count s path None placed l fails later parent = none-between p
 next-parent paths count s path (Some p) placed l fails later parent =
     (omega (arith, parent.0), none-between paths count s (p + 1) path placed l fails later parent.2)
 
-pub next-less : (paths : List Path) (s : ℕ) (path : Path) (o : Option ℕ) → IsNearest paths s path o → left o ≤ s
-next-less paths s path None h = omega arith
-next-less paths s path (Some p) h = omega (arith, h.0)
-
 -- ---- ancestors
 
 first-last : (d p : ℕ) (ns : List ℕ) → reverse (ns ++ p ∷ []) ≡ p ∷ reverse ns

@@ -102,11 +102,6 @@ numbers-add test ps i l h =
     with_number-last i (numbers_where test 0 (take i ps)) (numbers-below test 0 i (take i ps) (simp length-take (omega arith)))
     ∙ sym (numbers-more test ps i l ∙ ap (λ v. numbers_where test 0 (take i ps) ++ cond v (i ∷ []) []) h)
 
-pub numbers-skip : (test : List ℕ → Bool) (ps : Paths) (i : ℕ) → i < length ps → test (get_or ps i []) ≡ false
-    → numbers_where test 0 (take i ps) ≡ numbers_where test 0 (take (i + 1) ps)
-numbers-skip test ps i l h =
-    sym (numbers-more test ps i l ∙ ap (λ v. numbers_where test 0 (take i ps) ++ cond v (i ∷ []) []) h ∙ append-nil _)
-
 -- the same where some of the numbers are left out
 pub kept-add : (keep : ℕ → Bool) (test : List ℕ → Bool) (ps : Paths) (i : ℕ) → i < length ps → test (get_or ps i []) ≡ true → keep i ≡ true
     → with_number i (filter keep (numbers_where test 0 (take i ps))) ≡ filter keep (numbers_where test 0 (take (i + 1) ps))

@@ -78,7 +78,8 @@ pub record IsPlacedIf (is_one : Bool) (paths : List Path) (count : ℕ) (path : 
 
 -- the source of a path that is a transition's stands behind the others
 pub record AddsSource (paths : List Path) (is_one : Bool) (path : Path) (old new : List (Option ℕ)) : Type 0 where
-  pub follows : (ts : List Path) → AreSources paths ts old → AreSources paths (ts ++ (if is_one then path ∷ [] else [])) new
+  pub follows : (ts : List Path) → AreSources paths ts old
+      → AreSources paths (ts ++ (if is_one then path ∷ [] else [])) new
 
 -- the places, from one on, at which this number stands
 abbrev pub places_of : ℕ → ℕ → List (Option ℕ) → List ℕ

@@ -33,4 +33,5 @@ pub record IsAdded (old : Numbers) (n : Node) (number : ℕ) (new : Numbers) : T
 
 -- the table has the first state of each id, among those of these paths
 pub record AreNumbers (f : Numbers) (c : Chart) (paths : List Path) : Type 0 where
-  pub finds : (id : List ℕ) → number_of f id ≡ position_from (λ path. is_text_at attribute.Id id (element c path)) 0 paths
+  pub finds : (id : List ℕ) → number_of f id
+      ≡ position_from (λ path. is_text_at attribute.Id id (element c path)) 0 paths

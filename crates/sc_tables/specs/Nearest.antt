@@ -1,5 +1,5 @@
--- How parents are found: the parent of a state is the last one before it whose path leads on to its path. Only contracts
--- of private functions cite this.
+-- How parents are found: the parent of a state is the last one before it whose path leads on to its path. Only
+-- contracts of private functions cite this.
 use Rattle.std.specs.Prelude.{◌≡◌, ℕ, ◌+◌, ◌<◌, ◌≤◌, true, false, Option, Some, None, List, [], length, slice_index_or}
 use Rattle.sc_law.specs.Nodes.{Path, leads_on}
 use Rattle.sc_tables.specs.Preorder.{IsPreorder, comes_before}

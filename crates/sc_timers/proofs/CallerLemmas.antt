@@ -11,10 +11,6 @@ AreBelow n ss = All (λ (s : TimerImage). s.number < n) ss
 pub below-none : (n : ℕ) → AreBelow n []
 below-none n k d b = absurd (omega arith)
 
--- numbers below one number are below a greater one
-pub below-more : (m n : ℕ) (ss : List TimerImage) → m ≤ n → AreBelow m ss → AreBelow n ss
-below-more m n ss h a k d b = omega (arith, a k d b)
-
 below-cons : (n : ℕ) (t : TimerImage) (ss : List TimerImage) → t.number < n → AreBelow n ss → AreBelow n (t ∷ ss)
 below-cons n t ss h a zero d b = h
 below-cons n t ss h a (suc k) d b = a k d (omega arith)

@@ -354,10 +354,6 @@ drop-remove (x ∷ xs) (suc i) e h = drop-remove xs i e h
 abbrev timers : List TimerImage → ℕ → TimersOf
 timers ss spare = record { sends = ss; spare = spare }
 
--- timers with equal sends and equal room are equal
-pub same_timers : (ss ts : List TimerImage) (spare : ℕ) → ss ≡ ts → timers ss spare ≡ timers ts spare
-same_timers ss ts spare e = ap (λ xs. timers xs spare) e
-
 -- ---- the first send
 
 before-due : (a b : TimerImage) → is_before a b ≡ true → a.due ≤ b.due

@@ -358,7 +358,3 @@ if_ok_map (Err e) P Q f x = tt
 pub on_err : {T E : Type 0} (r : Result T E) (X : Type 0) → X → OnErr r X
 on_err (Ok t) X x = tt
 on_err (Err e) X x = x
-
-pub told_both : {T E : Type 0} (r : Result T E) (P Q : T → Type 0) → IfOk r P → IfOk r Q → IfOk r (λ t. P t × Q t)
-told_both (Ok t) P Q x y = (x, y)
-told_both (Err e) P Q x y = tt

@@ -10,7 +10,7 @@ use Rattle.sc_script.specs.Scripts.{Spelled, script_of}
 use Rattle.sc_script.specs.declared.script.Script.{Script}
 use Rattle.sc_top.specs.Promise.{Checks, IsRead, Known, Leaves, LeavesScript, LeftBy, Runs, Says, SaysOfScript, Shows, faulty, legal, initialised, checked, left_run, spelled}
 use Rattle.sc_top.specs.Promise as promise
-use Rattle.sc_top.specs.Journals.{DiskKnown, IsUnwritten}
+use Rattle.sc_top.specs.Journals.{DiskKnown}
 use Rattle.sc_top.specs.Sayings.{check_status, check_text, status_of, text_of}
 use Rattle.sc_top.specs.declared.saying.Saying.{Saying}
 use Rattle.sc_top.specs.declared.status.Status.{Status}
@@ -51,11 +51,6 @@ pub show_says : {E : Type 0} (k : Known) (r : Result Saying E) → IfOk r (λ s.
     → IfOk r (λ s. Says (Some Show) k (status_of s) (text_of s))
 show_says k (Ok s) shows = promise.tells (status_of s) (text_of s) refl shows
 show_says k (Err e) shows = tt
-
-pub show_leaves : {E : Type 0} (k : Known) (r : Result Saying E) → OnErr r (IsUnwritten k.disk)
-    → OnErr r (Leaves (Some Show) k)
-show_leaves k (Ok s) unwritten = tt
-show_leaves k (Err e) unwritten = promise.unwritten unwritten
 
 -- what is said of a chart
 pub check_says : {E : Type 0} (k : Known) (r : Result Saying E)

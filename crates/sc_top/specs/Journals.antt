@@ -22,8 +22,8 @@ use Rattle.sc_top.specs.Run.{ComesNext}
 use Rattle.sc_top.specs.declared.status.Status.{Status}
 use Rattle.sc_top.specs.declared.status.Status.TheVariants as status
 
--- What is known of a disk before and after a call: whether it tells what it holds; what reads gave and a stop might leave
--- before; whether its count of faults rose; and what reads give and a stop may leave after.
+-- What is known of a disk before and after a call: whether it tells what it holds; what reads gave and a stop might
+-- leave before; whether its count of faults rose; and what reads give and a stop may leave after.
 pub record DiskKnown : Type 1 where
   pub told : Type 0
   pub read : DiskOf
@@ -59,7 +59,8 @@ abbrev pub host_after : List Command → List Entry → HostImage
 host_after past history = replay (opening past) history
 
 -- one command more, which comes next in the run and which a fault of the disk left in doubt
-pub record IsWithNext (past : List Command) (s : Script) (workers budget : ℕ) (history : List Entry) (c : DiskOf) : Type 0 where
+pub record IsWithNext (past : List Command) (s : Script) (workers budget : ℕ) (history : List Entry)
+    (c : DiskOf) : Type 0 where
   pub entry : Entry
   pub next : ComesNext past s workers budget history entry
   pub stands : StandsFor c (count_after past history + 1) (answer (host_after past history) entry.command).host
@@ -69,7 +70,8 @@ abbrev pub IsWithOrWithout : List Command → Script → ℕ → ℕ → List En
 IsWithOrWithout past s workers budget history c =
     StandsFor c (count_after past history) (host_after past history) ⊎ IsWithNext past s workers budget history c
 
-pub record IsDoubtful (k : DiskKnown) (past : List Command) (s : Script) (workers budget : ℕ) (history : List Entry) : Type 0 where
+pub record IsDoubtful (k : DiskKnown) (past : List Command) (s : Script) (workers budget : ℕ)
+    (history : List Entry) : Type 0 where
   pub reads : IsWithOrWithout past s workers budget history k.reads
   pub stops : (c : DiskOf) → k.leaves c → IsWithOrWithout past s workers budget history c
 

@@ -30,21 +30,26 @@ use Rattle.sc_words.specs.declared.asked.Asked.{Asked}
 use Rattle.sc_words.specs.declared.asked.Asked.TheVariants.{Init, Run, Show, Check, Gen}
 use Rattle.sc_words.specs.declared.asked.TheConstants.{RUN_BUDGET}
 
--- How a run ended, and what the disk holds then. It came to its end, and no session is ready, or one is and the steps are
--- used up; or the disk failed, and may have left the next command in doubt; or there is no room for the next
+-- How a run ended, and what the disk holds then. It came to its end, and no session is ready, or one is and the steps
+-- are used up; or the disk failed, and may have left the next command in doubt; or there is no room for the next
 -- command, or with workers for some command.
-pub data Ends (k : DiskKnown) (past : List Command) (s : Script) (workers budget : ℕ) (history : List Entry) : End → Type 0 where
+pub data Ends (k : DiskKnown) (past : List Command) (s : Script) (workers budget : ℕ)
+    (history : List Entry) : End → Type 0 where
   quiet : IsWholeHistoryOf past s workers budget history → ready (host_after past history) ≡ None
-      → (k.told → IsStored k (count_after past history) (host_after past history)) → Ends k past s workers budget history end.Quiet
+      → (k.told → IsStored k (count_after past history) (host_after past history))
+      → Ends k past s workers budget history end.Quiet
   spent : IsWholeHistoryOf past s workers budget history → ready (host_after past history) ≢ None
-      → (k.told → IsStored k (count_after past history) (host_after past history)) → Ends k past s workers budget history end.Budget
+      → (k.told → IsStored k (count_after past history) (host_after past history))
+      → Ends k past s workers budget history end.Budget
   failed : IsHistoryOf past s workers budget history → k.failed → (k.told → IsDoubtful k past s workers budget history)
       → Ends k past s workers budget history end.Disk
   full : (e : Entry) → IsHistoryOf past s workers budget history → ComesNext past s workers budget history e
       → HasNoRoomFor k past history e
-      → (k.told → IsStored k (count_after past history) (host_after past history)) → Ends k past s workers budget history end.Full
+      → (k.told → IsStored k (count_after past history) (host_after past history))
+      → Ends k past s workers budget history end.Full
   tight : workers ≢ 0 → IsHistoryOf past s workers budget history → IsTight k past history
-      → (k.told → IsStored k (count_after past history) (host_after past history)) → Ends k past s workers budget history end.Full
+      → (k.told → IsStored k (count_after past history) (host_after past history))
+      → Ends k past s workers budget history end.Full
 
 -- what is written of a run, by how many commands the journal held at its opening, the host at the end, the history, and
 -- how it ended
@@ -53,7 +58,8 @@ Account = ℕ → HostImage → List Entry → End → List ℕ
 
 -- The bytes of a script's run are those of one history from the host that the journal held, with all that is promised
 -- of it.
-pub record Reports (k : DiskKnown) (account : Account) (script : Script) (workers budget : ℕ) (end : End) (bytes : List ℕ) :
+pub record Reports (k : DiskKnown) (account : Account) (script : Script) (workers budget : ℕ) (end : End)
+    (bytes : List ℕ) :
     Type 0 where
   pub opened : Opening k
   pub history : List Entry
@@ -61,7 +67,8 @@ pub record Reports (k : DiskKnown) (account : Account) (script : Script) (worker
   pub is : bytes ≡ account (length opened.past) (host_after opened.past history) history end
 
 -- of a script: it was run on the journal's host, or there is none, and nothing was written
-pub data Runs (k : DiskKnown) (account : Account) (script : Script) (workers budget : ℕ) : Status → List ℕ → Type 0 where
+pub data Runs (k : DiskKnown) (account : Account) (script : Script)
+    (workers budget : ℕ) : Status → List ℕ → Type 0 where
   not_run : (status : Status) (bytes : List ℕ) → IsUnwritten k → FailsToOpen k status bytes
       → Runs k account script workers budget status bytes
   ran : (end : End) (bytes : List ℕ) → Reports k account script workers budget end bytes
@@ -110,7 +117,8 @@ pub data Says (asked : Option Asked) (k : Known) : Status → List ℕ → Type 
   unread_script : (workers budget : ℕ) → asked ≡ Some (Run workers budget) → k.read_failed → IsUnwritten k.disk
       → Says asked k status.ReadFault (codes "read\n")
   run : (workers budget : ℕ) (text : List ℕ) (status : Status) (bytes : List ℕ) → asked ≡ Some (Run workers budget)
-      → IsRead asked k.source text → SaysOfScript k.disk workers budget (script_of text) status bytes → Says asked k status bytes
+      → IsRead asked k.source text → SaysOfScript k.disk workers budget (script_of text) status bytes
+      → Says asked k status bytes
   tells : (status : Status) (bytes : List ℕ) → asked ≡ Some Show → Shows k.disk status bytes → Says asked k status bytes
   checked : (status : Status) (bytes : List ℕ) → asked ≡ Some Check → Checks k.source k.read_failed status bytes
       → Says asked k status bytes

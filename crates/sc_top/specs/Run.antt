@@ -86,9 +86,10 @@ entries_of g (c ∷ cs) =
     record { who = Worker; command = c; reply = (answer g c).reply; logs = (answer g c).logs; sent = (answer g c).sent }
     ∷ entries_of (answer g c).host cs
 
--- The promise for the run of a script with so many workers and at most so many steps, on a host that these commands made:
--- what was done is one legal history; each accepted event is consumed at most once, those included that were given before;
--- and each client is served in order, as far as the run goes. Without workers it is the run of one thread, as far as it goes.
+-- The promise for the run of a script with so many workers and at most so many steps, on a host that these commands
+-- made: what was done is one legal history; each accepted event is consumed at most once, those included that were
+-- given before; and each client is served in order, as far as the run goes. Without workers it is the run of one
+-- thread, as far as it goes.
 pub record IsHistoryOf (past : List Command) (s : Script) (workers budget : ℕ) (history : List Entry) : Type 0 where
   pub legal : IsLegal (opening past) history
   pub once : IsAtMostOnce (entries_of empty_host past ++ history)
@@ -97,15 +98,17 @@ pub record IsHistoryOf (past : List Command) (s : Script) (workers budget : ℕ)
   pub run : workers ≡ 0 → IsFront (opening past) (in_turn s) budget history
 
 -- And where the run came to its end: the script is served, and where a session is ready then, the steps are used up.
-pub record IsWholeHistoryOf (past : List Command) (s : Script) (workers budget : ℕ) (history : List Entry) : Type 0 where
+pub record IsWholeHistoryOf (past : List Command) (s : Script) (workers budget : ℕ)
+    (history : List Entry) : Type 0 where
   pub part : IsHistoryOf past s workers budget history
   pub served : Serves s history
   pub spent : ready (replay (opening past) history) ≢ None → accepted_steps history ≡ budget
   pub run : workers ≡ 0 → IsRun (opening past) (in_turn s) budget history
 
--- The command of this entry comes next: in the run of one thread, or as a step of a worker or the next command of a client.
--- The host would accept it.
-pub record ComesNext (past : List Command) (s : Script) (workers budget : ℕ) (history : List Entry) (e : Entry) : Type 0 where
+-- The command of this entry comes next: in the run of one thread, or as a step of a worker or the next command of a
+-- client. The host would accept it.
+pub record ComesNext (past : List Command) (s : Script) (workers budget : ℕ) (history : List Entry)
+    (e : Entry) : Type 0 where
   pub run : workers ≡ 0 → IsFront (opening past) (in_turn s) budget (history ++ e ∷ [])
   pub next : workers ≢ 0 → IsNext s history e.who e.command
   pub accepted : is_accepted (answer (replay (opening past) history) e.command).reply ≡ true

@@ -28,7 +28,8 @@ abbrev pub run_of : {D : Type 0} → BookOf D → ℕ → RunOf D
 run_of book left = record { book = book; left = left }
 
 -- what each call keeps
-pub record GoesOn {D : Type 0} (tells : Type 0) (may_leave : D → DiskOf → Type 0) (may_have_left : D → ℕ → DiskOf → Type 0)
+pub record GoesOn {D : Type 0} (tells : Type 0) (may_leave : D → DiskOf → Type 0)
+    (may_have_left : D → ℕ → DiskOf → Type 0)
     (moment faults identity : D → ℕ) (old new : BookOf D) : Type 0 where
   pub kept : (past : List Command) → IsBook tells may_leave may_have_left moment past old
       → IsBook tells may_leave may_have_left moment past new
@@ -132,19 +133,22 @@ HowEnded tells may_leave may_have_left moment faults old new all (Some fault) =
     Stops tells may_leave may_have_left moment faults fault old new all
 
 -- how a run of a script with so many workers went: alone, or as the jobs of a pool leave it
-abbrev pub HowRan : {D : Type 0} → Type 0 → (D → DiskOf → Type 0) → (D → ℕ → DiskOf → Type 0) → (D → ℕ) → (D → ℕ) → (D → ℕ)
+abbrev pub HowRan : {D : Type 0} → Type 0 → (D → DiskOf → Type 0) → (D → ℕ → DiskOf → Type 0) → (D → ℕ) → (D → ℕ)
+    → (D → ℕ)
     → BookOf D → BookOf D → Script → ℕ → ℕ → Option CallFault → Type 0
 HowRan tells may_leave may_have_left moment faults identity old new s zero budget fault =
-    (left : ℕ) × HowEnded tells may_leave may_have_left moment faults (run_of old budget) (run_of new left) (in_turn s) fault
+    (left : ℕ) × HowEnded tells may_leave may_have_left moment faults (run_of old budget) (run_of new left)
+    (in_turn s) fault
 HowRan tells may_leave may_have_left moment faults identity old new s (suc more) budget fault =
     Ran s budget (seen_of tells may_leave may_have_left moment faults identity old)
     (seen_of tells may_leave may_have_left moment faults identity new) fault
 
--- A run that began with this book has ended, and left this host, this count of commands at the opening, this history and
--- this disk.
+-- A run that began with this book has ended, and left this host, this count of commands at the opening, this history
+-- and this disk.
 pub record HasEnded {D : Type 0} (tells : Type 0) (may_leave : D → DiskOf → Type 0)
     (may_have_left : D → ℕ → DiskOf → Type 0) (moment faults identity : D → ℕ) (old : BookOf D) (s : Script)
-    (workers budget : ℕ) (g : HostImage) (n : ℕ) (entries : List Entry) (left : D) (fault : Option CallFault) : Type 0 where
+    (workers budget : ℕ) (g : HostImage) (n : ℕ) (entries : List Entry) (left : D)
+    (fault : Option CallFault) : Type 0 where
   pub book : BookOf D
   pub goes_on : GoesOn tells may_leave may_have_left moment faults identity old book
   pub how : HowRan tells may_leave may_have_left moment faults identity old book s workers budget fault

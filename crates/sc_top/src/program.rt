@@ -209,6 +209,7 @@ fn draw<R: Threads + Wait + Sync, D: Disk, G: Gate>(
     }
 }
 
+/// Reads the text of a chart, and what there is to say of it.
 fn check<S: Source>(alloc: Global, source: &mut S) -> Result<Saying, NoMemory>
     ensures says { IfOk result (λ s. Checks (S.left source.old) (Rose (S.faults source.old) (S.faults source.new))
         (status_of s) (text_of s)) }

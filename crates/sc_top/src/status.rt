@@ -6,6 +6,7 @@ use sc_report::End;
 /// How the program ends.
 #[derive(Clone, Copy, Debug, PartialEq, Eq)]
 pub enum Status {
+    /// What was asked for was done.
     Done,
     /// The words after the program's name are no command.
     OtherWords,
@@ -19,7 +20,7 @@ pub enum Status {
     WriteFault,
     /// The disk failed.
     DiskFault,
-    /// Nothing was written.
+    /// Memory is out. Nothing was written.
     OutOfMemory,
     /// The steps of a run were used up, and a session is ready.
     Budget,

@@ -4,10 +4,7 @@ ghost use Rattle.std.specs.Str.Parse.{digits_value};
 ghost use Rattle.sc_law.specs.Legality.{legal_fault};
 ghost use Rattle.sc_law.specs.Turn.{round_limit};
 
-use sc_types::{Attribute, Chart};
-
-/// The rounds of a turn of a chart without a `limit`.
-const ROUND_LIMIT: u64 = 1000;
+use sc_types::{Attribute, Chart, DEFAULT_ROUNDS};
 
 /// How many rounds a turn of a legal chart may have.
 #[tactic(auto, using(crate::proofs::LimitLemmas::limits))]
@@ -17,7 +14,7 @@ pub(crate) fn round_limit(chart: &Chart) -> u64
 {
     match chart.root.text(Attribute::Limit) {
         Some(text) => number_of(text),
-        None => ROUND_LIMIT,
+        None => u64::from(DEFAULT_ROUNDS),
     }
 }
 

@@ -79,6 +79,7 @@ impl Plan {
         if state < self.tables.count() {
             self.tables.element(state).text(Attribute::Id)
         } else {
+            // To the definitions any other number is the root's, which has no id.
             self.tables.element(self.tables.count()).text(Attribute::Id)
         }
     }

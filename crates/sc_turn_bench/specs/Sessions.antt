@@ -1,4 +1,4 @@
--- Sessions that wait for an external event.
+-- Sessions that wait for an external event. This host's own rule.
 use Rattle.std.specs.Prelude.{◌≡◌, []}
 use Rattle.sc_types.specs.declared.chart.Chart.{Chart}
 use Rattle.sc_types.specs.declared.session.Cue.{Cue}
