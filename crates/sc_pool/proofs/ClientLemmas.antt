@@ -4,12 +4,12 @@ use Rattle.std.specs.Prelude.{slice_get, slice_set}
 use Rattle.sc_types.specs.declared.command.Command.{Command}
 use Rattle.std.proofs.lemmas.Option.{slice_get_within}
 use Rattle.std.proofs.lemmas.Bool.{cases_eq, true≢false}
-use Rattle.sc_pool.specs.Clients.{HasMet, HasNone, IsMade, KeepsMade, Marks, Takes, TakesNext}
+use Rattle.sc_pool.specs.Clients.{HasFailed, HasNone, IsMade, KeepsMade, Marks, Takes, TakesNext}
 use Rattle.sc_pool.specs.Keeping.{Follows, IsFree, clients_from}
 use Rattle.sc_pool.specs.Plans.{script_of}
 use Rattle.sc_pool.specs.declared.client.Client.{Client}
 use Rattle.sc_pool.specs.declared.client.Taken.{Taken}
-use Rattle.sc_pool.specs.declared.client.Taken.TheVariants.{Next, Over, Met}
+use Rattle.sc_pool.specs.declared.client.Taken.TheVariants.{Next, Over, Failed}
 
 -- the item at a place that was written, and at another
 
@@ -44,10 +44,10 @@ free n (s ∷ ss) (suc place) = free (n + 1) ss place
 
 -- one client more of the lists that are left
 pub one_more : (done : List Client) (n k : ℕ) (c : List Command) (rest : List (List Command)) → k ≡ n + 1
-    → (done ++ record { number = n; left = c; met = false } ∷ []) ++ clients_from k rest ≡ done ++ clients_from n (c ∷ rest)
+    → (done ++ record { number = n; left = c; failed = false } ∷ []) ++ clients_from k rest ≡ done ++ clients_from n (c ∷ rest)
 one_more done n k c rest is =
-    append_assoc done (record { number = n; left = c; met = false } ∷ []) (clients_from k rest)
-    ∙ ap (λ (m : ℕ). done ++ record { number = n; left = c; met = false } ∷ clients_from m rest) is
+    append_assoc done (record { number = n; left = c; failed = false } ∷ []) (clients_from k rest)
+    ∙ ap (λ (m : ℕ). done ++ record { number = n; left = c; failed = false } ∷ clients_from m rest) is
 
 cons_not_nil : (c : Command) (rest : List Command) → c ∷ rest ≡ [] → ⊥
 cons_not_nil c rest e = cc
@@ -79,13 +79,13 @@ took_keeps old new place number c t =
 pub marked_keeps : (old new : List Client) (place : ℕ) → Marks place old new → KeepsMade old new
 marked_keeps old new place m =
     subst (KeepsMade old) (sym m.set)
-    (made_after old place m.client (record m.client { met = true }) m.there (λ is free. absurd (true≢false free)))
+    (made_after old place m.client (record m.client { failed = true }) m.there (λ is free. absurd (true≢false free)))
 
 pub marked_made : (old new : List Client) (place : ℕ) → Marks place old new → IsMade (slice_get new place)
 marked_made old new place m =
     let P : Option Client → Type 0 = λ o. IsMade o in
     let here = ap (λ (cs : List Client). slice_get cs place) m.set
-    ∙ get_set_same old place m.client (record m.client { met = true }) m.there in
+    ∙ get_set_same old place m.client (record m.client { failed = true }) m.there in
     subst P (sym here) (λ free. absurd (true≢false free))
 
 pub keeps_then : (a b c : List Client) → KeepsMade a b → KeepsMade b c → KeepsMade a c
@@ -124,8 +124,8 @@ taken_at clients place old new (Next number c) there t =
     }
 taken_at clients place old new Over there t =
     (unchanged clients place old new there t.0, (let P : Option Client → Type 0 = λ o. HasNone o in subst P (sym there) t.1))
-taken_at clients place old new Met there t =
-    (unchanged clients place old new there t.0, (let P : Option Client → Type 0 = λ o. HasMet o in subst P (sym there) t.1))
+taken_at clients place old new Failed there t =
+    (unchanged clients place old new there t.0, (let P : Option Client → Type 0 = λ o. HasFailed o in subst P (sym there) t.1))
 
 pub took_within : (old new : List Client) (place number : ℕ) (c : Command) → TakesNext place number c old new → place < length new
 took_within old new place number c t =

@@ -190,7 +190,7 @@ all_follow p old clients after worst place number c e k t by is other =
     ])
 
 -- a client that met no fault goes on so where only its list changes
-free_after : (clients : List Client) (place : ℕ) (client changed : Client) → slice_get clients place ≡ Some client → changed.met ≡ client.met
+free_after : (clients : List Client) (place : ℕ) (client changed : Client) → slice_get clients place ≡ Some client → changed.failed ≡ client.failed
     → (other : ℕ) → IsFree (slice_get clients other) → IsFree (slice_get (slice_set clients place changed) other)
 free_after clients place client changed there same other is = elim (cases_eq place other) [
   | inl at ↦ (let P : Option Client → Type 0 = λ o. IsFree o in
@@ -240,7 +240,7 @@ client_made p old new clients after worst place number c k t a goes =
 -- the marked client, and the others
 
 marked_follows : (p : Planned) (made : List Command) (place number : ℕ) (c : Command) (client : Client) (rest : List Command)
-    → client.number ≡ number → number ≡ place + 1 → script_of p.scripts place ≡ made ++ c ∷ rest → client.met ≡ true
+    → client.number ≡ number → number ≡ place + 1 → script_of p.scripts place ≡ made ++ c ∷ rest → client.failed ≡ true
     → Follows (place + 1) (script_of p.scripts place) made (Some client)
 marked_follows p made place number c client rest same is whole met = record {
   numbered = same ∙ is;
@@ -258,7 +258,7 @@ failed_follow p old clients after marked worst place number c k t m other =
     let here : slice_get after place ≡ Some taken =
     ap (λ (cs : List Client). slice_get cs place) t.set ∙ get_set_same clients place t.client taken t.there in
     let is_taken : m.client ≡ taken = some_is (sym m.there ∙ here) in
-    let last : Client = record m.client { met = true } in
+    let last : Client = record m.client { failed = true } in
     let made = commands_of (who.Client (other + 1)) k.fresh in
     let P : List Client → Type 0 = λ cs. Follows (other + 1) (script_of p.scripts other) made (slice_get cs other) in
     subst P (sym m.set) (elim (cases_eq place other) [

@@ -6,14 +6,14 @@ use Rattle.sc_pool.specs.declared.client.Client.{Client}
 use Rattle.sc_pool.specs.declared.client.Taken.{Taken}
 use Rattle.sc_pool.specs.declared.locked.Round.{Round}
 use Rattle.sc_pool.specs.declared.locked.Round.TheVariants.{Made}
-use Rattle.sc_pool.specs.declared.client.Taken.TheVariants.{Next, Over, Met}
+use Rattle.sc_pool.specs.declared.client.Taken.TheVariants.{Next, Over, Failed}
 
 -- the next command of the client at a place is taken from its list
 pub record TakesNext (place number : ℕ) (c : Command) (old new : List Client) : Type 0 where
   pub client : Client
   pub there : slice_get old place ≡ Some client
   pub numbered : client.number ≡ number
-  pub free : client.met ≡ false
+  pub free : client.failed ≡ false
   pub rest : List Command
   pub left : client.left ≡ c ∷ rest
   pub set : new ≡ slice_set old place (record client { left = rest })
@@ -24,25 +24,25 @@ HasNone None = Unit {0}
 HasNone (Some client) = client.left ≡ []
 
 -- a client that met a fault
-abbrev pub HasMet : Option Client → Type 0
-HasMet None = ⊥
-HasMet (Some client) = client.met ≡ true
+abbrev pub HasFailed : Option Client → Type 0
+HasFailed None = ⊥
+HasFailed (Some client) = client.failed ≡ true
 
 abbrev pub Takes : ℕ → List Client → List Client → Taken → Type 0
 Takes place old new (Next number c) = TakesNext place number c old new
 Takes place old new Over = (new ≡ old) × HasNone (slice_get old place)
-Takes place old new Met = (new ≡ old) × HasMet (slice_get old place)
+Takes place old new Failed = (new ≡ old) × HasFailed (slice_get old place)
 
 -- the client at a place is marked as one that met a fault
 pub record Marks (place : ℕ) (old new : List Client) : Type 0 where
   pub client : Client
   pub there : slice_get old place ≡ Some client
-  pub set : new ≡ slice_set old place (record client { met = true })
+  pub set : new ≡ slice_set old place (record client { failed = true })
 
 -- each client that met no fault has made all of its commands
 abbrev pub IsMade : Option Client → Type 0
 IsMade None = Unit {0}
-IsMade (Some client) = client.met ≡ false → client.left ≡ []
+IsMade (Some client) = client.failed ≡ false → client.left ≡ []
 
 abbrev pub AllMade : List Client → Type 0
 AllMade clients = (place : ℕ) → IsMade (slice_get clients place)

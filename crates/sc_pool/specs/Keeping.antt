@@ -35,7 +35,7 @@ pub record HasMade (number : ℕ) (script made : List Command) (client : Client)
   pub numbered : client.number ≡ number
   pub rest : List Command
   pub whole : script ≡ made ++ rest
-  pub left : client.met ≡ false → client.left ≡ rest
+  pub left : client.failed ≡ false → client.left ≡ rest
 
 abbrev pub Follows : ℕ → List Command → List Command → Option Client → Type 0
 Follows number script made None = (script ≡ []) × (made ≡ [])
@@ -43,7 +43,7 @@ Follows number script made (Some client) = HasMade number script made client
 
 abbrev pub IsFree : Option Client → Type 0
 IsFree None = Unit {0}
-IsFree (Some client) = client.met ≡ false
+IsFree (Some client) = client.failed ≡ false
 
 pub record Keeps (p : Planned) (seen : Seen) (clients : List Client) (worst : Option CallFault) : Type 0 where
   pub no_step : HaveNoStep p.scripts
@@ -70,7 +70,7 @@ pub record StartsAt (start seen : Seen) : Type 0 where
 -- the clients of these lists, numbered from one number on
 abbrev pub clients_from : ℕ → List (List Command) → List Client
 clients_from n [] = []
-clients_from n (commands ∷ more) = record { number = n; left = commands; met = false } ∷ clients_from (n + 1) more
+clients_from n (commands ∷ more) = record { number = n; left = commands; failed = false } ∷ clients_from (n + 1) more
 
 -- the clients that a pool begins with
 abbrev pub Begins : Planned → List Client → Type 0

@@ -11,7 +11,7 @@ pub(crate) struct Client {
     /// The commands that it has still to make.
     pub(crate) left: Remaining<Command>,
     /// Whether one of its commands met a fault. It makes no more then.
-    pub(crate) met: bool,
+    pub(crate) failed: bool,
 }
 
 /// What a client's job finds in its list.
@@ -22,15 +22,15 @@ pub(crate) enum Taken {
     /// All its commands are made.
     Over,
     /// One of them met a fault.
-    Met,
+    Failed,
 }
 
 impl Client {
     fn take(&mut self) -> Taken
         ensures { Takes 0 (self.old ∷ []) (self.new ∷ []) result }
     {
-        if self.met {
-            return Taken::Met;
+        if self.failed {
+            return Taken::Failed;
         }
         match self.left.take_first() {
             Some(command) => Taken::Next(self.number, command),
@@ -39,9 +39,9 @@ impl Client {
     }
 
     fn mark(&mut self)
-        ensures { self.new ≡ record self.old { met = true } }
+        ensures { self.new ≡ record self.old { failed = true } }
     {
-        self.met = true;
+        self.failed = true;
     }
 }
 

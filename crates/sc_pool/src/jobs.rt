@@ -50,12 +50,12 @@ fn jobs_of(alloc: Global, clients: usize, workers: u32) -> Result<Vec<Job>, NoMe
 
 /// A client that has all of this list still to make.
 fn client_of(number: u32, commands: Sequence<Command>) -> Client
-    ensures { result ≡ record { number = number; left = commands; met = false } }
+    ensures { result ≡ record { number = number; left = commands; failed = false } }
 {
     Client {
         number,
         left: Remaining::new(commands),
-        met: false,
+        failed: false,
     }
 }
 
@@ -76,7 +76,7 @@ fn clients_of(
 }
 
 /// Makes the commands of a client one after another, to the end of its list or to a fault.
-fn serve<E: Engine, D: Disk, J: Plan, R: Wait>(
+fn run_client<E: Engine, D: Disk, J: Plan, R: Wait>(
     rt: &R,
     alloc: Global,
     locked: &Mutex<Locked<'_, E, D, J>>,
@@ -91,7 +91,7 @@ fn serve<E: Engine, D: Disk, J: Plan, R: Wait>(
 }
 
 /// One look of a worker: it claims a session, computes its turn outside the lock, and commits it.
-fn look<E: Engine, D: Disk, J: Plan, R: Wait, G: Gate>(
+fn step_one<E: Engine, D: Disk, J: Plan, R: Wait, G: Gate>(
     rt: &R,
     alloc: Global,
     engine: &E,
@@ -111,7 +111,7 @@ fn look<E: Engine, D: Disk, J: Plan, R: Wait, G: Gate>(
 }
 
 /// Steps sessions until it finds none to step for a while, or meets a fault.
-fn help<E: Engine, D: Disk, J: Plan, R: Wait, G: Gate>(
+fn run_worker<E: Engine, D: Disk, J: Plan, R: Wait, G: Gate>(
     rt: &R,
     alloc: Global,
     engine: &E,
@@ -120,7 +120,7 @@ fn help<E: Engine, D: Disk, J: Plan, R: Wait, G: Gate>(
 ) {
     let mut idle = 0u32;
     for _ in rt.forever() {
-        match look(rt, alloc, engine, gate, locked) {
+        match step_one(rt, alloc, engine, gate, locked) {
             Round::Made => idle = 0,
             Round::Nothing if idle < IDLE_LOOKS => idle += 1,
             Round::Nothing | Round::Failed => return,
@@ -129,7 +129,7 @@ fn help<E: Engine, D: Disk, J: Plan, R: Wait, G: Gate>(
 }
 
 /// What the job at a place does.
-fn work<E: Engine, D: Disk, J: Plan, R: Wait, G: Gate>(
+fn run_job<E: Engine, D: Disk, J: Plan, R: Wait, G: Gate>(
     rt: &R,
     alloc: Global,
     engine: &E,
@@ -138,8 +138,8 @@ fn work<E: Engine, D: Disk, J: Plan, R: Wait, G: Gate>(
     job: Job,
 ) {
     match job {
-        Job::Client(place) => serve(rt, alloc, locked, place),
-        Job::Worker => help(rt, alloc, engine, gate, locked),
+        Job::Client(place) => run_client(rt, alloc, locked, place),
+        Job::Worker => run_worker(rt, alloc, engine, gate, locked),
     }
 }
 
@@ -162,7 +162,7 @@ fn run_locked<'e, E: Engine, D: Disk, J: Plan + Send + Sync, R: Threads + Wait +
         rt,
         jobs.as_mut_slice(),
         threads,
-        &|_, job: &mut Job| { work(rt, alloc, engine, gate, lock, *job) },
+        &|_, job: &mut Job| { run_job(rt, alloc, engine, gate, lock, *job) },
     );
     let mut locked = shared.into_inner();
     locked.finish_clients(alloc);

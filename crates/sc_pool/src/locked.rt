@@ -128,7 +128,7 @@ impl<'e, E: Engine, D: Disk, J: Plan> Locked<'e, E, D, J> {
                 }
             }
             Taken::Over => Round::Nothing,
-            Taken::Met => Round::Failed,
+            Taken::Failed => Round::Failed,
         }
     }
 
