@@ -33,7 +33,7 @@ use Rattle.sc_core.specs.declared.body.Body.{Body}
 use Rattle.sc_core.specs.declared.change.Change.TheVariants.{Count, Lose, Tell}
 use Rattle.sc_core.specs.declared.prepared.Prepared.{Prepared}
 use Rattle.sc_core.specs.declared.session.Session.{Session}
-use Rattle.sc_core.specs.declared.ticks.Draft.{Draft}
+use Rattle.sc_core.specs.declared.ticks.TickDraft.{TickDraft}
 use Rattle.sc_core.proofs.AimLemmas.{aim_in, arrives, carried_is_sent, named_in, outlined_aim, outlines_fire, outlines_put, same_aim}
 use Rattle.sc_core.proofs.AppendLemmas.{can_more, installed_more, planned_more, targets_more}
 use Rattle.sc_core.proofs.BodyLemmas.{position_map}
@@ -413,17 +413,17 @@ fired_fails {P = P} h n t place s a found at aims is =
     fired_aimed h n t place s a found at aims ∙ ap (fired_by {P = P} (image h) n t place (session_image s)) is
 
 -- equal sends are added alike
-pub adds_same : {P : Type 0} (f made : Fired P) (old new : Draft P) → f ≡ made → Adds made old new → Adds f old new
+pub adds_same : {P : Type 0} (f made : Fired P) (old new : TickDraft P) → f ≡ made → Adds made old new → Adds f old new
 adds_same f made old new is h = subst (λ x. Adds x old new) (sym is) h
 
 -- ---- the sends that come due, one after another
 
 -- the host machine that the draft makes
-abbrev drafted : {P : Type 0} → HostImage → Draft P → HostImage
+abbrev drafted : {P : Type 0} → HostImage → TickDraft P → HostImage
 drafted g d = installed d.changes g
 
 -- it, with the sends that will be left
-abbrev drafted_left : {P : Type 0} → HostImage → ℕ → Draft P → HostImage
+abbrev drafted_left : {P : Type 0} → HostImage → ℕ → TickDraft P → HostImage
 drafted_left g now d = with_left (drafted g d) (ticked g now).timers
 
 -- the sends that are not due
@@ -431,11 +431,11 @@ abbrev undue : ℕ → List TimerImage → List TimerImage
 undue now ts = filter (λ t. not (is_due now t)) ts
 
 -- the sends that are still to be drafted
-abbrev pub due_later : {P : Type 0} → HostImage → ℕ → Draft P → List TimerImage
+abbrev pub due_later : {P : Type 0} → HostImage → ℕ → TickDraft P → List TimerImage
 due_later g now d = filter (is_due now) (drop (length d.sent) g.timers)
 
 -- what is drafted, and then what is still due, makes the whole
-pub record Ticks {P : Type 0} (g : HostImage) (now : ℕ) (d : Draft P) : Type 0 where
+pub record Ticks {P : Type 0} (g : HostImage) (now : ℕ) (d : TickDraft P) : Type 0 where
   pub host : (fire_all (drafted_left g now d) (due_later g now d)).host ≡ (fire_all (ticked g now) (due_in g now)).host
   pub sent : d.sent ++ (fire_all (drafted_left g now d) (due_later g now d)).sent
       ≡ (fire_all (ticked g now) (due_in g now)).sent
@@ -453,12 +453,12 @@ pub record Ticks {P : Type 0} (g : HostImage) (now : ℕ) (d : Draft P) : Type 0
   pub plain : InstallNone d.changes
 
 -- the next send that is due
-record IsNext {P : Type 0} (g : HostImage) (now : ℕ) (d e : Draft P) (t : TimerImage) : Type 0 where
+record IsNext {P : Type 0} (g : HostImage) (now : ℕ) (d e : TickDraft P) (t : TimerImage) : Type 0 where
   pub rest : drop (length d.sent) g.timers ≡ t ∷ drop (length e.sent) g.timers
   pub due : due_later g now d ≡ t ∷ due_later g now e
   pub left : undue now (drop (length d.sent) g.timers) ≡ undue now (drop (length e.sent) g.timers)
 
-next_due : {P : Type 0} (g : HostImage) (now : ℕ) (d e : Draft P) (t : TimerImage)
+next_due : {P : Type 0} (g : HostImage) (now : ℕ) (d e : TickDraft P) (t : TimerImage)
     → slice_get g.timers (length d.sent) ≡ Some t → t.due ≤ now → length e.sent ≡ length d.sent + 1
     → IsNext g now d e t
 next_due g now d e t there due more =
@@ -475,7 +475,7 @@ next_due g now d e t there due more =
     }
 
 -- one more send is drafted
-pub tick_more : {P : Type 0} (g : HostImage) (now : ℕ) (d e : Draft P) (t : TimerImage)
+pub tick_more : {P : Type 0} (g : HostImage) (now : ℕ) (d e : TickDraft P) (t : TimerImage)
     → slice_get g.timers (length d.sent) ≡ Some t → t.due ≤ now → d.events + 1 < 2 ^ 128
     → Adds (fired g d.events t) d e → Ticks g now d → Ticks g now e
 tick_more {P = P} g now d e t there due less added so =
@@ -566,7 +566,7 @@ tick_more {P = P} g now d e t there due less added so =
         subst (IsFirstDue h.clock) (sym (so.timers ∙ next.rest)) on_time
 
 -- once none is due, the draft is the answer
-pub tick_done : {P : Type 0} (g : HostImage) (now : ℕ) (d : Draft P) (p : Prepared P) → g.commands + 1 < 2 ^ 64
+pub tick_done : {P : Type 0} (g : HostImage) (now : ℕ) (d : TickDraft P) (p : Prepared P) → g.commands + 1 < 2 ^ 64
     → Ticks g now d → due_later g now d ≡ [] → p.changes ≡ d.changes ++ Count ∷ [] → p.reply ≡ Ticked (length d.sent)
     → p.logs ≡ [] → p.sent ≡ d.sent → Prepares (advance g now) g p
 tick_done {P = P} g now d p less so none changes replied logs sent =
@@ -597,14 +597,14 @@ tick_done {P = P} g now d p less so none changes replied logs sent =
     count = omega (arith, so.count, ap length none)
 
 -- and it installs no chart
-pub tick_plain : {P : Type 0} (g : HostImage) (now : ℕ) (d : Draft P) (p : Prepared P) → Ticks g now d
+pub tick_plain : {P : Type 0} (g : HostImage) (now : ℕ) (d : TickDraft P) (p : Prepared P) → Ticks g now d
     → p.changes ≡ d.changes ++ Count ∷ [] → InstallNone p.changes
 tick_plain g now d p so changes =
     λ chart_of. subst (ArePlanned chart_of) (sym changes)
     (planned_more chart_of d.changes (Count ∷ []) (so.plain chart_of) tt)
 
 -- the same where there was memory for it
-pub tick_ok : {P : Type 0} (g : HostImage) (now : ℕ) (d : Draft P) (r : Result (Prepared P) NoMemory)
+pub tick_ok : {P : Type 0} (g : HostImage) (now : ℕ) (d : TickDraft P) (r : Result (Prepared P) NoMemory)
     → g.commands + 1 < 2 ^ 64 → Ticks g now d → due_later g now d ≡ []
     → IfOk r (λ p. p.changes ≡ d.changes ++ Count ∷ []) → IfOk r (λ p. p.reply ≡ Ticked (length d.sent))
     → IfOk r (λ p. p.logs ≡ []) → IfOk r (λ p. p.sent ≡ d.sent) → IfOk r (Prepares (advance g now) g)
@@ -612,7 +612,7 @@ tick_ok g now d (Ok p) less so none changes replied logs sent =
     tick_done g now d p less so none changes replied logs sent
 tick_ok g now d (Err e) less so none changes replied logs sent = tt
 
-pub plain_ok : {P : Type 0} (g : HostImage) (now : ℕ) (d : Draft P) (r : Result (Prepared P) NoMemory) → Ticks g now d
+pub plain_ok : {P : Type 0} (g : HostImage) (now : ℕ) (d : TickDraft P) (r : Result (Prepared P) NoMemory) → Ticks g now d
     → IfOk r (λ p. p.changes ≡ d.changes ++ Count ∷ []) → IfOk r (λ p. InstallNone p.changes)
 plain_ok g now d (Ok p) so changes = tick_plain g now d p so changes
 plain_ok g now d (Err e) so changes = tt

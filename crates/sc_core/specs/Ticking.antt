@@ -18,7 +18,7 @@ use Rattle.sc_core.specs.declared.aims.Aim.{Aim}
 use Rattle.sc_core.specs.declared.aims.Aim.TheVariants.{Reaches, Fails, Drops}
 use Rattle.sc_core.specs.declared.change.Change.{Change}
 use Rattle.sc_core.specs.declared.change.Change.TheVariants.{Lose, Queue, Tell}
-use Rattle.sc_core.specs.declared.ticks.Draft.{Draft}
+use Rattle.sc_core.specs.declared.ticks.TickDraft.{TickDraft}
 
 -- the changes that a send makes, what becomes of it, and the number of the last event after it
 pub record Fired (P : Type 0) : Type 0 where
@@ -69,7 +69,7 @@ abbrev pub fired : {P : Type 0} → HostImage → ℕ → TimerImage → Fired P
 fired g n t = fired_from g n t (session_named g t.session)
 
 -- what a send makes is added to a draft
-pub record Adds {P : Type 0} (f : Fired P) (old new : Draft P) : Type 0 where
+pub record Adds {P : Type 0} (f : Fired P) (old new : TickDraft P) : Type 0 where
   pub changes : new.changes ≡ old.changes ++ f.changes
   pub sent : new.sent ≡ old.sent ++ f.what ∷ []
   pub events : new.events ≡ f.events

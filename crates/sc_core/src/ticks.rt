@@ -21,7 +21,7 @@ use std::alloc::Global;
 
 /// What is drafted so far of an advance of the clock.
 #[derive(Drop)]
-pub(crate) struct Draft<P> {
+pub(crate) struct TickDraft<P> {
     changes: Queue<Change<P>>,
     /// What became of each send that came due.
     sent: Sequence<Delivery>,
@@ -40,16 +40,16 @@ fn later(clock: u64, ticks: u64) -> Option<u64>
     Some(now)
 }
 
-impl<P: Drop> Draft<P> {
+impl<P: Drop> TickDraft<P> {
     /// The clock advances.
-    fn new(alloc: Global, clock: u64, events: u128) -> Result<Draft<P>, NoMemory>
+    fn new(alloc: Global, clock: u64, events: u128) -> Result<TickDraft<P>, NoMemory>
         ensures changes { IfOk result (λ d. d.changes ≡ Change.Advance clock ∷ []) }
         ensures sent { IfOk result (λ d. d.sent ≡ []) }
         ensures events { IfOk result (λ d. d.events ≡ events) }
     {
         let mut changes = Queue::new(alloc);
         changes.push(Change::Advance { clock })?;
-        Ok(Draft {
+        Ok(TickDraft {
             changes,
             sent: Sequence::new(alloc),
             events,
@@ -154,7 +154,7 @@ impl<P: Drop> Body<P> {
     fn draft_fire(
         &self,
         alloc: Global,
-        draft: &mut Draft<P>,
+        draft: &mut TickDraft<P>,
         send: &TimerImage,
     ) -> Result<(), NoMemory>
         requires agrees { Agrees self.now }
@@ -185,7 +185,7 @@ impl<P: Drop> Body<P> {
         ensures prepares { IfOk result (Prepares (advance (image self.now) now) (image self.now)) }
         ensures plans { IfOk result (λ p. InstallNone p.changes) }
     {
-        let mut draft = Draft::new(alloc, now, self.events)?;
+        let mut draft = TickDraft::new(alloc, now, self.events)?;
         while let Some(send) = self.due_send(draft.sent.len(), now) {
             self.draft_fire(alloc, &mut draft, send)?;
         }
