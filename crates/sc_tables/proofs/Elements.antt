@@ -6,7 +6,7 @@ use Rattle.sc_types.specs.declared.chart.Chart.{Chart}
 use Rattle.sc_types.specs.declared.chart.Node.{Node, Node', Row_of-Node, end_of-Node, more_of-Node}
 use Rattle.sc_law.specs.Nodes.{Path, elements, elements_from, elements_of_row}
 use Rattle.sc_tables.specs.Preorder.{IsPreorder, comes_before}
-use Rattle.sc_tables.proofs.Order.{begins, begins-same, under, under-before, under-more, under-kid, kids-before}
+use Rattle.sc_tables.proofs.Order.{begins, begins-same, under, under-begins, under-before, under-more, under-kid, kids-before}
 
 -- each of these paths leads on from this one, or is the same
 abbrev pub AllBegin : Path → List Path → Type 0
@@ -25,6 +25,10 @@ ComesBeforeAll path (p ∷ ps) = (comes_before path p ≡ true) × ComesBeforeAl
 abbrev pub IsOrdered : List Path → Type 0
 IsOrdered [] = Unit {0}
 IsOrdered (p ∷ ps) = ComesBeforeAll p ps × IsOrdered ps
+
+under-all : (path : Path) (k : ℕ) (ps : List Path) → AllUnder path k ps → AllBegin path ps
+under-all path k [] h = tt
+under-all path k (p ∷ ps) h = (under-begins path k p h.0, under-all path k ps h.1)
 
 under-all-before : (path : Path) (k : ℕ) (ps : List Path) → AllUnder path k ps → ComesBeforeAll path ps
 under-all-before path k [] h = tt
