@@ -9,11 +9,11 @@ use Rattle.sc_book.specs.declared.fault.CallFault.TheVariants.{Disk, Full, NoMem
 use Rattle.sc_book.specs.declared.log.Log.{Log}
 use Rattle.sc_book.proofs.BookLemmas.{entered, failed, refused}
 use Rattle.sc_codec.specs.Bodies.{Spells}
-use Rattle.sc_core.specs.Accepted.{is_accepted}
-use Rattle.sc_core.specs.Commands.{answer}
-use Rattle.sc_core.specs.Histories.{Tells}
+use Rattle.sc_machine.specs.Accepted.{is_accepted}
+use Rattle.sc_machine.specs.Commands.{answer}
+use Rattle.sc_machine.specs.Histories.{Tells}
 use Rattle.sc_core.specs.HostStates.{HostOf}
-use Rattle.sc_core.proofs.AcceptedLemmas.{refused_changes_nothing}
+use Rattle.sc_machine.proofs.AcceptedLemmas.{refused_changes_nothing}
 use Rattle.sc_dev.specs.Causes.{Rose}
 use Rattle.sc_dev.specs.Disks.{DiskOf}
 use Rattle.sc_journal.specs.Journals.{IsWithOrWithout, JournalOf, Keeps}

@@ -4,11 +4,11 @@ use Rattle.sc_book.specs.Books.{opening}
 use Rattle.sc_book.specs.Confirming.{FitsEntry, has_fitting_values}
 use Rattle.sc_codec.specs.Bodies.{IsEncodable, body_of, pairs_field}
 use Rattle.sc_codec.proofs.Lengths.{length-cancel, length-install, length-post, length-start, length-step, length-tick, pairs_light}
-use Rattle.sc_core.specs.Accepted.{is_accepted}
-use Rattle.sc_core.specs.Commands.{answer, weight, weight_of}
-use Rattle.sc_core.specs.Histories.{replay}
-use Rattle.sc_core.specs.Hosts.{empty_host}
-use Rattle.sc_core.proofs.LengthLemmas.{AreShort, IsWithinLimits, accepted_within, short_after, short_empty, short_replay}
+use Rattle.sc_machine.specs.Accepted.{is_accepted}
+use Rattle.sc_machine.specs.Commands.{answer, weight, weight_of}
+use Rattle.sc_machine.specs.Histories.{replay}
+use Rattle.sc_machine.specs.Hosts.{empty_host}
+use Rattle.sc_machine.proofs.LengthLemmas.{AreShort, IsWithinLimits, accepted_within, short_after, short_empty, short_replay}
 use Rattle.sc_core.proofs.WeightLemmas.{weight_list, weight_number, weight_text, weight_truth}
 use Rattle.sc_types.specs.declared.command.Command.{Command}
 use Rattle.sc_types.specs.declared.command.Command.TheVariants.{Cancel, Install, Post, Start, Step, Tick}

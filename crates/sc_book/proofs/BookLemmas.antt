@@ -10,11 +10,11 @@ use Rattle.sc_book.specs.Images.{Spell, StandsFor}
 use Rattle.sc_book.specs.Receipts.{IsAllOrDoubted, IsAllOrMore, IsDuring}
 use Rattle.sc_book.specs.declared.doubt.Doubt.{Doubt}
 use Rattle.sc_codec.specs.Bodies.{Spells}
-use Rattle.sc_core.specs.Accepted.{AreAccepted, accepted_commands, after, is_accepted}
-use Rattle.sc_core.specs.Commands.{answer}
-use Rattle.sc_core.specs.Histories.{IsLegal, Tells, replay}
-use Rattle.sc_core.specs.Hosts.{empty_host}
-use Rattle.sc_core.proofs.AcceptedLemmas.{accepted_append, accepted_more, after_append, after_counts, legal_accepted, legal_more, refused_changes_nothing, replay_append, replay_counts, replay_is_after}
+use Rattle.sc_machine.specs.Accepted.{AreAccepted, accepted_commands, after, is_accepted}
+use Rattle.sc_machine.specs.Commands.{answer}
+use Rattle.sc_machine.specs.Histories.{IsLegal, Tells, replay}
+use Rattle.sc_machine.specs.Hosts.{empty_host}
+use Rattle.sc_machine.proofs.AcceptedLemmas.{accepted_append, accepted_more, after_append, after_counts, legal_accepted, legal_more, refused_changes_nothing, replay_append, replay_counts, replay_is_after}
 use Rattle.sc_dev.specs.Causes.{Rose}
 use Rattle.sc_dev.specs.Disks.{DiskOf}
 use Rattle.sc_journal.specs.Journals.{IsAsDoubted, IsWithOrWithout, JournalOf, Keeps, StandsAt}

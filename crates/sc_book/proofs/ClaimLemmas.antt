@@ -7,8 +7,8 @@ use Rattle.sc_book.specs.Books.{BookOf, IsBook}
 use Rattle.sc_book.specs.Claims.{HasTurn, IsPresent}
 use Rattle.sc_book.specs.Tickets.{ticket_of}
 use Rattle.sc_core.specs.Bodies.{cued}
-use Rattle.sc_core.specs.Cues.{cue_of, is_ready}
-use Rattle.sc_core.specs.Hosts.{chart_named}
+use Rattle.sc_machine.specs.Cues.{cue_of, is_ready}
+use Rattle.sc_machine.specs.Hosts.{chart_named}
 use Rattle.sc_core.specs.Inputs.{IsInput, IsInputAt, IsInputOf}
 use Rattle.sc_core.specs.declared.inputs.TurnInput.{TurnInput}
 use Rattle.sc_dev.specs.Disks.{DiskOf}

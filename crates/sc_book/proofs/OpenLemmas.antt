@@ -12,14 +12,14 @@ use Rattle.sc_book.specs.declared.fault.OpenFault.TheVariants.{Disk, Damaged, Ba
 use Rattle.sc_book.specs.declared.log.Log.{Log}
 use Rattle.sc_book.proofs.AnswerLemmas.{same_book}
 use Rattle.sc_codec.proofs.Commands.{one_command}
-use Rattle.sc_core.specs.Accepted.{AreAccepted, after, is_accepted}
-use Rattle.sc_core.specs.Commands.{answer}
-use Rattle.sc_core.specs.Hosts.{empty_host}
+use Rattle.sc_machine.specs.Accepted.{AreAccepted, after, is_accepted}
+use Rattle.sc_machine.specs.Commands.{answer}
+use Rattle.sc_machine.specs.Hosts.{empty_host}
 use Rattle.sc_core.specs.HostStates.{HostOf}
 use Rattle.sc_dev.specs.Disks.{DiskOf}
 use Rattle.sc_journal.specs.Journals.{JournalOf, Keeps, StandsAt}
 use Rattle.sc_journal.specs.Texts.{HeadOf}
-use Rattle.sc_core.proofs.AcceptedLemmas.{accepted_more, after_append, after_counts}
+use Rattle.sc_machine.proofs.AcceptedLemmas.{accepted_more, after_append, after_counts}
 use Rattle.sc_rooms.specs.Rooms.{PlacesOf}
 use Rattle.sc_types.specs.declared.command.Command.{Command}
 use Rattle.sc_types.specs.declared.host.HostImage.{HostImage}

@@ -5,10 +5,10 @@ use Rattle.std.specs.List.{Contains}
 use Rattle.sc_book.specs.Images.{Spell, StandsFor}
 use Rattle.sc_book.specs.declared.doubt.Doubt.{Doubt}
 use Rattle.sc_codec.specs.Bodies.{Spells}
-use Rattle.sc_core.specs.Accepted.{AreAccepted, accepted_commands, after, is_accepted}
-use Rattle.sc_core.specs.Commands.{answer}
-use Rattle.sc_core.specs.Histories.{IsLegal, replay}
-use Rattle.sc_core.specs.Hosts.{empty_host}
+use Rattle.sc_machine.specs.Accepted.{AreAccepted, accepted_commands, after, is_accepted}
+use Rattle.sc_machine.specs.Commands.{answer}
+use Rattle.sc_machine.specs.Histories.{IsLegal, replay}
+use Rattle.sc_machine.specs.Hosts.{empty_host}
 use Rattle.sc_dev.specs.Causes.{Rose}
 use Rattle.sc_dev.specs.Disks.{DiskOf}
 use Rattle.sc_journal.specs.Journals.{JournalOf, Keeps}

@@ -2,11 +2,11 @@
 use Rattle.std.specs.Prelude.{ℕ, ◌+◌, ◌<◌, ◌≤◌, ◌≡◌, ◌⊎◌, ◌==◌, not, Option, Some, None, List, filter, find, length, slice_get}
 use Rattle.sc_base.specs.Ascending.{contains, with_number}
 use Rattle.sc_book.specs.Books.{BookOf}
-use Rattle.sc_core.specs.Accepted.{accepted_steps}
+use Rattle.sc_machine.specs.Accepted.{accepted_steps}
 use Rattle.sc_core.specs.Bodies.{cued}
-use Rattle.sc_core.specs.Cues.{cue_of}
-use Rattle.sc_core.specs.Hosts.{chart_named}
-use Rattle.sc_core.specs.Waiting.{name_at}
+use Rattle.sc_machine.specs.Cues.{cue_of}
+use Rattle.sc_machine.specs.Hosts.{chart_named}
+use Rattle.sc_machine.specs.Waiting.{name_at}
 use Rattle.sc_law.specs.Fitting.{Fits, HasCue}
 use Rattle.sc_law.specs.Legality.{legal_fault}
 use Rattle.sc_types.specs.declared.chart.Chart.{Chart}

@@ -1,8 +1,8 @@
 -- What an image of a disk stands for: so many journaled commands, and the host after them. This host's own rule.
 use Rattle.std.specs.Prelude.{ℕ, ◌+◌, ◌≡◌, List, [], ◌∷◌, length}
 use Rattle.sc_codec.specs.Bodies.{Spells}
-use Rattle.sc_core.specs.Accepted.{AreAccepted, after}
-use Rattle.sc_core.specs.Hosts.{empty_host}
+use Rattle.sc_machine.specs.Accepted.{AreAccepted, after}
+use Rattle.sc_machine.specs.Hosts.{empty_host}
 use Rattle.sc_dev.specs.Disks.{DiskOf}
 use Rattle.sc_journal.specs.Texts.{HeadOf, Holds}
 use Rattle.sc_types.specs.declared.command.Command.{Command}

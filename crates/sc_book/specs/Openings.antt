@@ -5,9 +5,9 @@ use Rattle.sc_book.specs.Images.{Spell}
 use Rattle.sc_book.specs.declared.fault.OpenFault.{OpenFault}
 use Rattle.sc_book.specs.declared.fault.OpenFault.TheVariants.{Damaged, BadEntry}
 use Rattle.sc_codec.specs.Bodies.{Spells}
-use Rattle.sc_core.specs.Accepted.{AreAccepted, after, is_accepted}
-use Rattle.sc_core.specs.Commands.{answer}
-use Rattle.sc_core.specs.Hosts.{empty_host}
+use Rattle.sc_machine.specs.Accepted.{AreAccepted, after, is_accepted}
+use Rattle.sc_machine.specs.Commands.{answer}
+use Rattle.sc_machine.specs.Hosts.{empty_host}
 use Rattle.sc_dev.specs.Disks.{DiskOf}
 use Rattle.sc_journal.specs.Texts.{HeadOf, Holds, held}
 use Rattle.sc_types.specs.declared.command.Command.{Command}

@@ -7,9 +7,9 @@ use Rattle.sc_book.specs.declared.fault.CallFault.{CallFault}
 use Rattle.sc_book.specs.declared.fault.CallFault.TheVariants.{Disk}
 use Rattle.sc_book.specs.declared.receipt.Receipt.{Receipt}
 use Rattle.sc_codec.specs.Bodies.{body_of}
-use Rattle.sc_core.specs.Accepted.{is_accepted}
-use Rattle.sc_core.specs.Commands.{answer}
-use Rattle.sc_core.specs.Histories.{Tells}
+use Rattle.sc_machine.specs.Accepted.{is_accepted}
+use Rattle.sc_machine.specs.Commands.{answer}
+use Rattle.sc_machine.specs.Histories.{Tells}
 use Rattle.sc_dev.specs.Disks.{DiskOf}
 use Rattle.sc_journal.specs.Journals.{IsFull}
 use Rattle.sc_types.specs.declared.command.Command.{Command}

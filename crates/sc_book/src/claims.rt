@@ -2,9 +2,9 @@ ghost use Rattle.std.specs.Prelude.{◌≡◌, ◌+◌, ◌≤◌, ◌<◌, ◌^
 ghost use Rattle.sc_base.specs.Ascending.{contains};
 ghost use Rattle.sc_book.specs.Books.{IsBook};
 ghost use Rattle.sc_book.specs.Claims.{Claims, steps_begun, unclaimed, without_claim};
-ghost use Rattle.sc_core.specs.Accepted.{accepted_steps};
+ghost use Rattle.sc_machine.specs.Accepted.{accepted_steps};
 ghost use Rattle.sc_core.specs.Bodies.{cued};
-ghost use Rattle.sc_core.specs.Waiting.{StaysReady};
+ghost use Rattle.sc_machine.specs.Waiting.{StaysReady};
 ghost use Rattle.sc_types.specs.declared.command.Command.{Command};
 ghost use Rattle.sc_types.specs.declared.host.HostImage.{HostImage};
 

@@ -1,8 +1,8 @@
 ghost use Rattle.std.specs.Prelude.{◌≡◌, ◌≢◌, ◌+◌, ◌^◌, ◌<◌, ◌≤◌, ℕ, false, None, Ok, Err, IfOk, IfErr, OnOk, MatchResult, length};
 ghost use Rattle.sc_book.specs.Images.{StandsFor};
 ghost use Rattle.sc_book.specs.Openings.{HasFirstBad, IsBadAt, IsDamagedAt, IsFirstBad, IsMade, IsOpened, IsRedone, IsReplayed, NamesNoPlace};
-ghost use Rattle.sc_core.specs.Accepted.{is_accepted};
-ghost use Rattle.sc_core.specs.Commands.{answer};
+ghost use Rattle.sc_machine.specs.Accepted.{is_accepted};
+ghost use Rattle.sc_machine.specs.Commands.{answer};
 ghost use Rattle.sc_dev.specs.Causes.{Rose};
 ghost use Rattle.sc_dev.specs.Disks.{Within};
 ghost use Rattle.sc_journal.specs.Journals.{Keeps};

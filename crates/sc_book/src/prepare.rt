@@ -2,8 +2,8 @@ ghost use Rattle.std.specs.Prelude.{◌≡◌, ◌+◌, ◌^◌, ◌≤◌, true
 ghost use Rattle.std.specs.List.{list_all};
 ghost use Rattle.sc_book.specs.Confirming.{Confirms, FitsEntry, IsBodyOf, has_fitting_values};
 ghost use Rattle.sc_book.specs.Keeping.{HasRoom, IsSameLog};
-ghost use Rattle.sc_core.specs.Accepted.{is_accepted};
-ghost use Rattle.sc_core.specs.Commands.{answer};
+ghost use Rattle.sc_machine.specs.Accepted.{is_accepted};
+ghost use Rattle.sc_machine.specs.Commands.{answer};
 ghost use Rattle.sc_core.specs.HostStates.{CanInstall};
 ghost use Rattle.sc_core.specs.Preparing.{Prepares};
 ghost use Rattle.sc_types.specs.Values.{fits};

@@ -17,12 +17,12 @@ use Rattle.sc_types.specs.declared.session.Phase.{Phase}
 use Rattle.sc_types.specs.declared.session.SessionState.{SessionState}
 use Rattle.sc_core.specs.Aims.{Outline, aim, aim_found, aim_named, carried, invokeid_for, outline, outlines, received}
 use Rattle.sc_core.specs.Changes.{put_state, with_invokeid}
-use Rattle.sc_core.specs.Deliveries.{Delivered, arriving, fire, hears, is_cut_from, left_as, queue, receiver_name, send_found, send_named, send_now, unreachable, while_live}
-use Rattle.sc_core.specs.Hosts.{is_live, is_running, is_session_named, session_named, session_place, with_session}
+use Rattle.sc_machine.specs.Deliveries.{Delivered, arriving, fire, hears, is_cut_from, left_as, queue, receiver_name, send_found, send_named, send_now, unreachable, while_live}
+use Rattle.sc_machine.specs.Hosts.{is_live, is_running, is_session_named, session_named, session_place, with_session}
 use Rattle.sc_core.specs.declared.aims.Aim.{Aim}
 use Rattle.sc_core.specs.declared.aims.Aim.TheVariants.{Reaches, Fails, Drops}
 use Rattle.sc_core.proofs.BodyLemmas.{position_map}
-use Rattle.sc_core.proofs.FoundLemmas.{is_at}
+use Rattle.sc_machine.proofs.FoundLemmas.{is_at}
 
 -- ---- sending at an aim is sending
 

@@ -14,8 +14,8 @@ use Rattle.sc_types.specs.declared.session.SessionState.{SessionState}
 use Rattle.sc_core.specs.Aims.{aim_found, outline, Outline}
 use Rattle.sc_core.specs.Births.{AreFrom, IsGrown, Sight, birth_place, born_sight, sight, sights}
 use Rattle.sc_core.specs.Changes.{put_state}
-use Rattle.sc_core.specs.Deliveries.{while_live}
-use Rattle.sc_core.specs.Hosts.{is_live, is_session_named, session_named, session_place, with_session}
+use Rattle.sc_machine.specs.Deliveries.{while_live}
+use Rattle.sc_machine.specs.Hosts.{is_live, is_session_named, session_named, session_place, with_session}
 use Rattle.sc_core.specs.declared.aims.Aim.{Aim}
 use Rattle.sc_core.specs.declared.aims.Aim.TheVariants.{Reaches, Fails}
 use Rattle.sc_core.specs.declared.draft.Placed.{Placed}

@@ -6,7 +6,7 @@ use Rattle.sc_types.specs.declared.event.Event.{Event}
 use Rattle.sc_types.specs.declared.host.SessionImage.{SessionImage}
 use Rattle.sc_base.specs.Ascending.{with_number}
 use Rattle.sc_core.specs.Bodies.{cued, marked}
-use Rattle.sc_core.specs.Cues.{cue_in, is_ready, waiting_cue}
+use Rattle.sc_machine.specs.Cues.{cue_in, is_ready, waiting_cue}
 use Rattle.sc_types.specs.declared.session.Phase.{Phase}
 use Rattle.sc_types.specs.declared.session.Phase.TheVariants as phase
 

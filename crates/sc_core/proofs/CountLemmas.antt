@@ -12,9 +12,9 @@ use Rattle.sc_types.specs.declared.host.SessionImage.{SessionImage}
 use Rattle.sc_types.specs.declared.host.TimerImage.{TimerImage}
 use Rattle.sc_core.specs.Changes.{at_session, queue_at, tell}
 use Rattle.sc_core.specs.Counting.{count_after}
-use Rattle.sc_core.specs.Deliveries.{cut_off, queue, without_invoke}
+use Rattle.sc_machine.specs.Deliveries.{cut_off, queue, without_invoke}
 use Rattle.sc_core.specs.Drafts.{IsOfStep, Stepper}
-use Rattle.sc_core.specs.Hosts.{with_session}
+use Rattle.sc_machine.specs.Hosts.{with_session}
 use Rattle.sc_core.specs.Installing.{apply, installed}
 use Rattle.sc_core.specs.declared.change.Change.{Change}
 use Rattle.sc_core.specs.declared.change.Change.TheVariants.{Advance, Bear, Count, CutOff, Delay, DropInvoke, End, Flag, Install, Lose, PutState, Queue, Start, TakeFront, Tell, Undo}

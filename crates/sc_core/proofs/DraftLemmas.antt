@@ -23,9 +23,9 @@ use Rattle.sc_types.specs.declared.host.To.{To}
 use Rattle.sc_types.specs.declared.session.SessionState.{SessionState}
 use Rattle.sc_core.specs.Births.{IsGrown, Sight, born_sight, sight, sights}
 use Rattle.sc_core.specs.Changes.{numbered, put_state, queue_at, tell}
-use Rattle.sc_core.specs.Deliveries.{Delivered, arriving, delay_send, deliver, deliver_of, due_time, hand_to, hears, is_cut_from, left_as, next_send, queue, send_found, send_named, send_now, undo, unreachable, while_live}
+use Rattle.sc_machine.specs.Deliveries.{Delivered, arriving, delay_send, deliver, deliver_of, due_time, hand_to, hears, is_cut_from, left_as, next_send, queue, send_found, send_named, send_now, undo, unreachable, while_live}
 use Rattle.sc_core.specs.Drafts.{AreNumbered, Drafts, Follows, IsDraft, IsOfStep, IsSender, Notes, Own, Stepper, own, own_at, so_far}
-use Rattle.sc_core.specs.Hosts.{is_live, is_running, session_named, with_session}
+use Rattle.sc_machine.specs.Hosts.{is_live, is_running, session_named, with_session}
 use Rattle.sc_core.specs.Installing.{CanApply, CanApplyAll, HasTarget, HaveTargets, apply, installed}
 use Rattle.sc_core.specs.declared.change.Change.{Change}
 use Rattle.sc_core.specs.declared.change.Change.TheVariants.{Delay, Queue, Tell, Undo}
@@ -34,9 +34,9 @@ use Rattle.sc_core.specs.declared.draft.Placed.{Placed}
 use Rattle.sc_core.proofs.AimLemmas.{set_here}
 use Rattle.sc_core.proofs.AppendLemmas.{can_more, installed_more, targets_more}
 use Rattle.sc_core.proofs.BirthLemmas.{grown_from, grown_on, place_of_found, sights_set}
-use Rattle.sc_core.proofs.FoundLemmas.{is_at}
-use Rattle.sc_core.proofs.GivenLemmas.{all_push}
-use Rattle.sc_core.proofs.MoveLemmas.{live_found}
+use Rattle.sc_machine.proofs.FoundLemmas.{is_at}
+use Rattle.sc_machine.proofs.GivenLemmas.{all_push}
+use Rattle.sc_machine.proofs.MoveLemmas.{live_found}
 use Rattle.sc_core.proofs.SetLemmas.{map_long}
 use Rattle.sc_core.proofs.SoundLemmas.{next_numbered}
 

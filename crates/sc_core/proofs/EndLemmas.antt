@@ -18,10 +18,10 @@ use Rattle.sc_types.specs.declared.session.SessionState.{SessionState}
 use Rattle.sc_core.specs.Births.{AreFrom, IsGrown, born_sight, sight, sights}
 use Rattle.sc_core.specs.Bodies.{Agrees, children_of, image, inviter, session_image}
 use Rattle.sc_core.specs.Changes.{clear_at, clear_in, numbered, put_state}
-use Rattle.sc_core.specs.Deliveries.{Delivered, DeliveredAll, cut_off, hand_to, left_as, queue, while_live}
+use Rattle.sc_machine.specs.Deliveries.{Delivered, DeliveredAll, cut_off, hand_to, left_as, queue, while_live}
 use Rattle.sc_core.specs.Drafts.{IsSender, so_far, stepper}
-use Rattle.sc_core.specs.Endings.{cleared, end_at, end_event, end_in, end_with, is_left_by, one_delivery, tell_end, tell_invoker, with_children_left}
-use Rattle.sc_core.specs.Hosts.{is_live, session_named, with_session}
+use Rattle.sc_machine.specs.Endings.{cleared, end_at, end_event, end_in, end_with, is_left_by, one_delivery, tell_end, tell_invoker, with_children_left}
+use Rattle.sc_machine.specs.Hosts.{is_live, session_named, with_session}
 use Rattle.sc_core.specs.Installing.{CanApplyAll, installed}
 use Rattle.sc_core.specs.HostStates.{ArePlanned}
 use Rattle.sc_core.specs.Parting.{Adds, DraftsEnd, cut_changes, cut_told, is_cut_in, new_left, old_left}

@@ -7,7 +7,7 @@ use Rattle.std.proofs.lemmas.Str.{IsUtf8-from_ascii, IsUtf8-from_is_utf8, is_utf
 use Rattle.std.proofs.lemmas.Str.Ascii.{IsAscii-from_all}
 use Rattle.std.specs.List.{list_all}
 use Rattle.sc_base.specs.Text.{IsName, is_name, is_name_byte}
-use Rattle.sc_core.specs.Endings.{name_in}
+use Rattle.sc_machine.specs.Endings.{name_in}
 
 -- a name passes the test
 name_test : (text : List ℕ) → IsName text → is_name text ≡ true

@@ -1,27 +1,24 @@
 -- A turn that was computed before, where it is the one that a session takes.
-use Rattle.std.proofs.Common.{◌≡◌, ℕ, [], None, Some, option_and_then, option_map, slice_get, sym, ap, subst, ◌∙◌}
+use Rattle.std.proofs.Common.{◌≡◌, ℕ, [], None, Some, option_and_then, option_map, slice_get, sym, ap, ◌∙◌}
 use Rattle.std.proofs.lemmas.Option.{same_Some}
 use Rattle.std.specs.Arc.{arc_value}
 use Rattle.sc_types.specs.declared.chart.Chart.{Chart}
 use Rattle.sc_types.specs.declared.host.SessionImage.{SessionImage}
 use Rattle.sc_types.specs.declared.session.Cue.{Cue}
-use Rattle.sc_types.specs.declared.session.Phase.TheVariants as phase
 use Rattle.sc_types.specs.declared.session.SessionState.{SessionState}
-use Rattle.sc_fits.proofs.Fitting.{turn-leaves}
 use Rattle.sc_law.specs.Fitting.{Fits, HasCue}
 use Rattle.sc_law.specs.Legality.{legal_fault}
-use Rattle.sc_law.specs.Turn.{TurnResult, turn}
 use Rattle.sc_law.specs.Turned.{IsTurnOf, TurnedOf}
 use Rattle.sc_core.specs.Bodies.{image}
-use Rattle.sc_core.specs.Cues.{cue_of}
+use Rattle.sc_machine.specs.Cues.{cue_of}
 use Rattle.sc_core.specs.Holding.{IsHeld}
-use Rattle.sc_core.specs.Hosts.{chart_named, chart_place}
+use Rattle.sc_machine.specs.Hosts.{chart_named, chart_place}
 use Rattle.sc_core.specs.Inputs.{IsInput}
 use Rattle.sc_core.specs.declared.body.Body.{Body}
 use Rattle.sc_core.specs.declared.body.InstalledChart.{InstalledChart}
 use Rattle.sc_core.specs.declared.inputs.TurnInput.{TurnInput}
 use Rattle.sc_core.specs.declared.session.Session.{Session}
-use Rattle.sc_core.proofs.FitLemmas.{fits-at, waits-for}
+use Rattle.sc_machine.proofs.FitLemmas.{fits-at, waits-for}
 use Rattle.sc_core.proofs.PlanLemmas.{only_there, plan_of_name, plan_seen, settled_state}
 
 -- a turn of the same cue, state and chart is that of the session
@@ -55,14 +52,6 @@ turns_at chart_of h place x cue held there cued =
       fits = fit.fits waits.live;
       waits = waits.cue;
     }
-
--- the session that it leaves fits the chart, where it goes on
-pub handed_fits : (k : Chart) (s : SessionState) (cue : Cue) (r : TurnResult) → Turns k s cue → r ≡ turn k s cue
-    → r.after.phase ≡ phase.Running → Fits k r.after
-handed_fits k s cue r can given running =
-    let after = ap (λ (x : TurnResult). x.after) (sym given) in
-    subst (Fits k) after
-    (turn-leaves k s cue can.legal can.fits can.waits (ap (λ (y : SessionState). y.phase) after ∙ running))
 
 -- what is copied of the plan and the state is what the turn is computed from
 pub input_seen : {P : Type 0} (chart_of : P → Chart) (h : Body P) (place : ℕ) (s : Session) (c : InstalledChart P) (x : SessionImage)

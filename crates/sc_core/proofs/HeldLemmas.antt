@@ -4,7 +4,7 @@ use Rattle.sc_types.specs.declared.chart.Chart.{Chart}
 use Rattle.sc_types.specs.declared.host.HostImage.{HostImage}
 use Rattle.sc_types.specs.declared.host.TimerImage.{TimerImage}
 use Rattle.sc_core.specs.Bodies.{Agrees, Keeps, image}
-use Rattle.sc_core.specs.FittingHosts.{FitsChart}
+use Rattle.sc_machine.specs.FittingHosts.{FitsChart}
 use Rattle.std.proofs.lemmas.List.Elements.{All-push}
 use Rattle.sc_core.specs.Holding.{IsHeld, host_of, rooms_of}
 use Rattle.sc_core.specs.HostStates.{ArePlanned, CanInstall, CanMake, HasRoomIn, HaveRoomIn, HaveRoomOfIn, IsPlanned, IsSound}
@@ -13,7 +13,7 @@ use Rattle.sc_core.specs.declared.change.Change.{Change}
 use Rattle.sc_core.specs.declared.change.Change.TheVariants.{Count, Advance, Install, Start, Bear, PutState, TakeFront, Queue, Tell, Flag, CutOff, DropInvoke, End, Delay, Undo, Lose}
 use Rattle.sc_core.proofs.RoomLemmas.{room_is}
 use Rattle.sc_core.specs.declared.session.Session.{Session}
-use Rattle.sc_core.specs.Hosts.{empty_host}
+use Rattle.sc_machine.specs.Hosts.{empty_host}
 use Rattle.sc_core.specs.declared.body.Body.{Body}
 use Rattle.sc_core.specs.declared.body.InstalledChart.{InstalledChart}
 

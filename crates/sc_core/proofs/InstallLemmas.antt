@@ -11,8 +11,8 @@ use Rattle.sc_types.specs.declared.session.Phase.TheVariants as phase
 use Rattle.sc_core.specs.Bodies.{Agrees, Lowers, Makes, image, session_image}
 use Rattle.sc_core.specs.ChangeLists.{first_of, taken_of}
 use Rattle.sc_core.specs.Changes.{at_session, clear_at, clear_in, queue_at}
-use Rattle.sc_core.specs.Deliveries.{queue}
-use Rattle.sc_core.specs.Hosts.{with_session}
+use Rattle.sc_machine.specs.Deliveries.{queue}
+use Rattle.sc_machine.specs.Hosts.{with_session}
 use Rattle.sc_core.specs.Installing.{CanApply, CanApplyAll, HasRoom, HaveRoom, HaveRoomOf, IsNewest, apply, charts_after, charts_with, installed, new_rooms, queue_rooms, room_at, rooms_ahead}
 use Rattle.sc_core.specs.Makings.{CanChange, CanMakeFirst, Installs}
 use Rattle.sc_core.specs.declared.body.Body.{Body}

@@ -14,9 +14,9 @@ use Rattle.sc_law.specs.Runs.{fresh_state}
 use Rattle.sc_core.specs.Births.{born_sight, sight, sights}
 use Rattle.sc_core.specs.Bodies.{session_image}
 use Rattle.sc_core.specs.Changes.{drop_invoke, tell, with_started}
-use Rattle.sc_core.specs.Deliveries.{born, cancel_child, child_session, cut_off, invoke, live_child, may_bear, unborn, unborn_event, while_live, without_invoke}
+use Rattle.sc_machine.specs.Deliveries.{born, cancel_child, child_session, cut_off, invoke, live_child, may_bear, unborn, unborn_event, while_live, without_invoke}
 use Rattle.sc_core.specs.Drafts.{Drafts, Follows, IsDraft, IsSender, Stepper, own, so_far}
-use Rattle.sc_core.specs.Hosts.{is_running, session_named, session_place, with_session}
+use Rattle.sc_machine.specs.Hosts.{is_running, session_named, session_place, with_session}
 use Rattle.sc_core.specs.Installing.{IsChildAt}
 use Rattle.sc_core.specs.declared.change.Change.{Change}
 use Rattle.sc_core.specs.declared.change.Change.TheVariants.{Bear, CutOff, DropInvoke, Tell}

@@ -7,7 +7,7 @@ use Rattle.std.proofs.Math.Seq.{get_or-append_seam}
 use Rattle.sc_types.specs.declared.history.Entry.{Entry}
 use Rattle.sc_types.specs.declared.history.Who.TheVariants.{Worker}
 use Rattle.sc_types.specs.declared.session.CueName.TheVariants.{Fresh}
-use Rattle.sc_core.specs.Accepted.{accepted_steps, is_accepted_step}
+use Rattle.sc_machine.specs.Accepted.{accepted_steps, is_accepted_step}
 use Rattle.sc_core.specs.Keeping.{IsWithin, entry_of}
 use Rattle.sc_core.specs.Showing.{stepped_entry}
 use Rattle.sc_core.specs.declared.kept.Kept.{Kept}

@@ -14,10 +14,10 @@ use Rattle.sc_types.specs.declared.host.SessionImage.{SessionImage}
 use Rattle.sc_core.specs.Births.{AreFrom, Sight, born_sight, sight}
 use Rattle.sc_core.specs.Bodies.{children_of, inviter, is_invited, session_image}
 use Rattle.sc_core.specs.Changes.{at_session, queue_at}
-use Rattle.sc_core.specs.Deliveries.{cut_off, queue, without_invoke}
+use Rattle.sc_machine.specs.Deliveries.{cut_off, queue, without_invoke}
 use Rattle.sc_core.specs.Drafts.{IsOfStep, Stepper}
-use Rattle.sc_core.specs.Endings.{is_left_by}
-use Rattle.sc_core.specs.Hosts.{is_live, with_session}
+use Rattle.sc_machine.specs.Endings.{is_left_by}
+use Rattle.sc_machine.specs.Hosts.{is_live, with_session}
 use Rattle.sc_core.specs.Installing.{CanApply, CanApplyAll, apply, installed}
 use Rattle.sc_core.specs.Parting.{is_cut, is_cut_in, left_if, new_left, old_left, put_left}
 use Rattle.sc_core.specs.declared.change.Change.{Change}

@@ -11,14 +11,14 @@ use Rattle.sc_types.specs.declared.session.Phase.{Phase}
 use Rattle.sc_types.specs.declared.session.Phase.TheVariants as phase
 use Rattle.sc_types.specs.declared.value.Value.{Value}
 use Rattle.sc_law.specs.Turn.{TurnResult, turn}
-use Rattle.sc_core.specs.Commands.{Answer, answer, cancel, install, post, start, step, step_cue, step_in, step_turn, tick}
-use Rattle.sc_core.specs.Cues.{cue_in, cue_of}
-use Rattle.sc_core.specs.Hosts.{chart_named, session_named}
+use Rattle.sc_machine.specs.Commands.{Answer, answer, cancel, install, post, start, step, step_cue, step_in, step_turn, tick}
+use Rattle.sc_machine.specs.Cues.{cue_in, cue_of}
+use Rattle.sc_machine.specs.Hosts.{chart_named, session_named}
 use Rattle.sc_core.specs.HostStates.{ArePlanned, CanMake, IsSound}
 use Rattle.sc_core.specs.Preparing.{FitsOn, Prepares, StepFits}
 use Rattle.sc_core.specs.declared.prepared.Prepared.{Prepared}
 use Rattle.sc_core.proofs.SoundLemmas.{sound_answer}
-use Rattle.sc_core.proofs.TurnLemmas.{turn-of}
+use Rattle.sc_machine.proofs.TurnLemmas.{turn-of}
 
 -- what an engine gave is the turn of the definition
 pub step_given : {P : Type 0} (g : HostImage) (place : ℕ) (s : SessionImage) (cue : Cue) (given : TurnResult) (p : Prepared P)

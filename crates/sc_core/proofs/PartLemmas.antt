@@ -6,8 +6,8 @@ use Rattle.sc_types.specs.declared.history.Delivery.TheVariants.{Flagged}
 use Rattle.sc_types.specs.declared.host.HostImage.{HostImage}
 use Rattle.sc_types.specs.declared.host.SessionImage.{SessionImage}
 use Rattle.sc_core.specs.Changes.{cut_off_at}
-use Rattle.sc_core.specs.Deliveries.{cut_off}
-use Rattle.sc_core.specs.Hosts.{with_session}
+use Rattle.sc_machine.specs.Deliveries.{cut_off}
+use Rattle.sc_machine.specs.Hosts.{with_session}
 use Rattle.sc_core.specs.Installing.{CanApplyAll, HaveTargets, installed}
 use Rattle.sc_core.specs.Parting.{cut_changes, cut_told}
 use Rattle.sc_core.specs.declared.change.Change.{Change}

@@ -15,14 +15,14 @@ use Rattle.sc_law.specs.Legality.{legal_fault}
 use Rattle.sc_law.specs.Turn.{TurnResult, turn}
 use Rattle.sc_types.specs.declared.session.SessionState.{SessionState}
 use Rattle.sc_core.specs.Bodies.{image, session_image}
-use Rattle.sc_core.specs.Cues.{cue_of}
+use Rattle.sc_machine.specs.Cues.{cue_of}
 use Rattle.sc_core.specs.Holding.{IsHeld}
-use Rattle.sc_core.specs.Hosts.{bare_chart, chart_at, chart_named, chart_place, has_chart, is_chart_named}
+use Rattle.sc_machine.specs.Hosts.{bare_chart, chart_at, chart_named, chart_place, has_chart, is_chart_named}
 use Rattle.sc_core.specs.HostStates.{IsPlanned}
 use Rattle.sc_core.specs.declared.body.Body.{Body}
 use Rattle.sc_core.specs.declared.body.InstalledChart.{InstalledChart}
 use Rattle.sc_core.specs.declared.session.Session.{Session}
-use Rattle.sc_core.proofs.FitLemmas.{fits-at, legal_of, no_chart, place_within, waits-for}
+use Rattle.sc_machine.proofs.FitLemmas.{fits-at, legal_of, no_chart, place_within, waits-for}
 use Rattle.sc_core.proofs.PrepareLemmas.{some_position}
 use Rattle.sc_core.proofs.SetLemmas.{image_at}
 

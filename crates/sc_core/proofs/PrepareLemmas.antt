@@ -4,8 +4,8 @@ use Rattle.std.proofs.lemmas.Bool.Decides.{nat_tests}
 use Rattle.std.specs.List.{list_any, position_or_len}
 use Rattle.sc_types.specs.declared.command.Reply.{Reply}
 use Rattle.sc_types.specs.declared.host.HostImage.{HostImage}
-use Rattle.sc_core.specs.Commands.{accepted}
-use Rattle.sc_core.specs.Hosts.{chart_place, has_chart, is_chart_named}
+use Rattle.sc_machine.specs.Commands.{accepted}
+use Rattle.sc_machine.specs.Hosts.{chart_place, has_chart, is_chart_named}
 use Rattle.sc_core.specs.Installing.{AreRoomy, CanApply, CanApplyAll, HasTarget, HaveTargets, IsRoomy, apply, installed, new_rooms}
 use Rattle.sc_core.specs.Preparing.{Prepares}
 use Rattle.sc_core.specs.declared.change.Change.{Change}

@@ -5,7 +5,7 @@ use Rattle.std.proofs.lemmas.Option.{slice_get-map}
 use Rattle.sc_types.specs.declared.host.HostImage.{HostImage}
 use Rattle.sc_types.specs.declared.host.SessionImage.{SessionImage}
 use Rattle.sc_core.specs.Bodies.{cued, session_image}
-use Rattle.sc_core.specs.Cues.{is_ready, ready}
+use Rattle.sc_machine.specs.Cues.{is_ready, ready}
 use Rattle.sc_core.specs.declared.session.Session.{Session}
 
 -- the first place of a session with a cue, counted from k, is that of the first ready session

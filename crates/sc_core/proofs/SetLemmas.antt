@@ -14,12 +14,12 @@ use Rattle.sc_types.specs.declared.host.InvokerImage.{InvokerImage}
 use Rattle.sc_types.specs.declared.host.SessionImage.{SessionImage}
 use Rattle.sc_core.specs.Bodies.{Agrees, IsFamily, Makes, children_room, cued, failure_room, image, inviter, marked, queue_room, session_image}
 use Rattle.sc_core.specs.Changes.{IsFirstDue, clear_at, clear_in, with_started}
-use Rattle.sc_core.specs.Cues.{is_ready}
-use Rattle.sc_core.specs.Endings.{cleared}
+use Rattle.sc_machine.specs.Cues.{is_ready}
+use Rattle.sc_machine.specs.Endings.{cleared}
 use Rattle.sc_rooms.specs.Rooms.{place_of}
 use Rattle.std.specs.Str.{bytes_eq}
 use Rattle.sc_core.specs.declared.body.InstalledChart.{InstalledChart}
-use Rattle.sc_core.specs.Hosts.{chart_place, is_chart_named, is_live, is_session_named, session_place, with_session}
+use Rattle.sc_machine.specs.Hosts.{chart_place, is_chart_named, is_live, is_session_named, session_place, with_session}
 use Rattle.sc_types.specs.declared.session.Phase.{Phase}
 use Rattle.sc_types.specs.declared.session.Phase.TheVariants as phase
 use Rattle.sc_core.specs.declared.body.Body.{Body}

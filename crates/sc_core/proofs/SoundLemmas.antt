@@ -20,19 +20,19 @@ use Rattle.sc_types.specs.declared.session.Phase.{Phase}
 use Rattle.sc_types.specs.declared.session.Phase.TheVariants as phase
 use Rattle.sc_law.specs.Fitting.{Fits}
 use Rattle.sc_law.specs.Turn.{turn}
-use Rattle.sc_core.specs.Commands.{Answer, advance, answer, fresh_session, posted_event, put_in, step_turn}
-use Rattle.sc_core.specs.Deliveries.{born, cancel_child, deliver, deliver_all, deliver_of, delay_send, due_time, fire, fire_all, hand_to, hears, may_bear, unborn, is_cut_from, is_due, left_as, live_child, next_send, queue, receiver_name, send_found, send_named, send_now, undo, unreachable, while_live}
+use Rattle.sc_machine.specs.Commands.{Answer, advance, answer, fresh_session, posted_event, put_in, step_turn}
+use Rattle.sc_machine.specs.Deliveries.{born, cancel_child, deliver, deliver_all, deliver_of, delay_send, due_time, fire, fire_all, hand_to, hears, may_bear, unborn, is_cut_from, is_due, left_as, live_child, next_send, queue, receiver_name, send_found, send_named, send_now, undo, unreachable, while_live}
 use Rattle.sc_core.specs.Drafts.{AreNumbered}
-use Rattle.sc_core.specs.Endings.{cleared, end_at, end_event, end_in, one_delivery, tell_end, tell_invoker, with_children_left}
-use Rattle.sc_core.specs.FittingHosts.{FitsChart}
-use Rattle.sc_core.specs.Hosts.{chart_named, has_chart, is_live, is_running, session_named, with_session}
+use Rattle.sc_machine.specs.Endings.{cleared, end_at, end_event, end_in, one_delivery, tell_end, tell_invoker, with_children_left}
+use Rattle.sc_machine.specs.FittingHosts.{FitsChart}
+use Rattle.sc_machine.specs.Hosts.{chart_named, has_chart, is_live, is_running, session_named, with_session}
 use Rattle.sc_core.specs.HostStates.{IsSound}
 use Rattle.sc_core.specs.Preparing.{FitsOn, StepFits}
-use Rattle.sc_core.proofs.ChangeLemmas.{Change, cancels, change_of, installs, posts, refuses, starts, ticks, turns, with_chart, with_fresh}
-use Rattle.sc_core.proofs.FitLemmas.{fits-at, fits-more, fits-same, fresh-fits, live-runs}
-use Rattle.sc_core.proofs.FoundLemmas.{is_at}
-use Rattle.sc_core.proofs.MoveLemmas.{all_events, all_fire, all_move, commands_moves, due_in, end_events, end_moves, fire_events, fits_moved, fits_moves, puts, queues, same, ticked}
-use Rattle.sc_core.proofs.TurnLemmas.{turn-of, turn-past}
+use Rattle.sc_machine.proofs.ChangeLemmas.{Change, cancels, change_of, installs, posts, refuses, starts, ticks, turns, with_chart, with_fresh}
+use Rattle.sc_machine.proofs.FitLemmas.{fits-at, fits-more, fits-same, fresh-fits, live-runs}
+use Rattle.sc_machine.proofs.FoundLemmas.{is_at}
+use Rattle.sc_machine.proofs.MoveLemmas.{all_events, all_fire, all_move, commands_moves, due_in, end_events, end_moves, fire_events, fits_moved, fits_moves, puts, queues, same, ticked}
+use Rattle.sc_machine.proofs.TurnLemmas.{turn-of, turn-past}
 
 -- the clock stands, and the pending sends keep their numbers
 pub record IsSteady (g h : HostImage) : Type 0 where

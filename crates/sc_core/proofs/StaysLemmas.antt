@@ -20,15 +20,15 @@ use Rattle.sc_types.specs.declared.session.Phase.TheVariants as phase
 use Rattle.sc_types.specs.declared.value.Value.{Value}
 use Rattle.sc_law.specs.LegalCharts.{legal_chart_of}
 use Rattle.sc_law.specs.Turn.{TurnResult, turn}
-use Rattle.sc_core.specs.Commands.{Answer, accepted, advance, answer, cancel, cancel_to, fresh_session, has_slash, install, install_read, is_too_long, post, post_found, post_to, posted_event, put_in, refused, start, step, step_cue, step_in, step_turn, tick, weight_of}
-use Rattle.sc_core.specs.Cues.{cue_of, is_ready}
-use Rattle.sc_core.specs.Deliveries.{deliver_all, fire_all, is_due, queue}
-use Rattle.sc_core.specs.Endings.{end_at}
-use Rattle.sc_core.specs.Hosts.{chart_named, has_chart, session_named, session_place, with_session}
-use Rattle.sc_core.specs.Waiting.{StaysReady, is_ready_at, is_step_of, name_at}
-use Rattle.sc_core.proofs.FoundLemmas.{is_at}
+use Rattle.sc_machine.specs.Commands.{Answer, accepted, advance, answer, cancel, cancel_to, fresh_session, has_slash, install, install_read, is_too_long, post, post_found, post_to, posted_event, put_in, refused, start, step, step_cue, step_in, step_turn, tick, weight_of}
+use Rattle.sc_machine.specs.Cues.{cue_of, is_ready}
+use Rattle.sc_machine.specs.Deliveries.{deliver_all, fire_all, is_due, queue}
+use Rattle.sc_machine.specs.Endings.{end_at}
+use Rattle.sc_machine.specs.Hosts.{chart_named, has_chart, session_named, session_place, with_session}
+use Rattle.sc_machine.specs.Waiting.{StaysReady, is_ready_at, is_step_of, name_at}
+use Rattle.sc_machine.proofs.FoundLemmas.{is_at}
 use Rattle.sc_core.proofs.NextLemmas.{answer_cancel, answer_install, answer_post, answer_start, answer_step, answer_tick}
-use Rattle.sc_core.proofs.WaitLemmas.{Goes, all_fire_go, all_go, end_goes, goes_both, goes_push, goes_put, goes_set, goes_still, queue_goes, ready_still, waits_flag}
+use Rattle.sc_machine.proofs.WaitLemmas.{Goes, all_fire_go, all_go, end_goes, goes_both, goes_push, goes_put, goes_set, goes_still, queue_goes, ready_still, waits_flag}
 
 -- where what waits for a session stays, it is ready still
 pub ready_goes : (place : ℕ) (g h : HostImage) → Goes place g h → is_ready_at g place ≡ true → is_ready_at h place ≡ true

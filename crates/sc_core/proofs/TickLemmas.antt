@@ -20,9 +20,9 @@ use Rattle.sc_types.specs.declared.session.SessionState.{SessionState}
 use Rattle.sc_core.specs.Aims.{Outline, aim, carried, invokeid_for, outline, outlines, received}
 use Rattle.sc_core.specs.Bodies.{image, session_image}
 use Rattle.sc_core.specs.Changes.{IsFirstDue, lose, numbered, put_state, queue_at, tell, with_invokeid}
-use Rattle.sc_core.specs.Commands.{advance}
-use Rattle.sc_core.specs.Deliveries.{Delivered, fire, fire_all, hears, is_cut_from, is_due, left_as, queue, receiver_name, send_found, send_named, send_now, unreachable, while_live}
-use Rattle.sc_core.specs.Hosts.{is_running, session_named, session_place, with_session}
+use Rattle.sc_machine.specs.Commands.{advance}
+use Rattle.sc_machine.specs.Deliveries.{Delivered, fire, fire_all, hears, is_cut_from, is_due, left_as, queue, receiver_name, send_found, send_named, send_now, unreachable, while_live}
+use Rattle.sc_machine.specs.Hosts.{is_running, session_named, session_place, with_session}
 use Rattle.sc_core.specs.HostStates.{ArePlanned}
 use Rattle.sc_core.specs.Installing.{AreRoomy, CanApplyAll, HaveTargets, IsRoomy, installed, new_rooms}
 use Rattle.sc_core.specs.Preparing.{InstallNone, Prepares}
@@ -37,9 +37,9 @@ use Rattle.sc_core.specs.declared.ticks.TickDraft.{TickDraft}
 use Rattle.sc_core.proofs.AimLemmas.{aim_in, arrives, carried_is_sent, named_in, outlined_aim, outlines_fire, outlines_put, same_aim}
 use Rattle.sc_core.proofs.AppendLemmas.{can_more, installed_more, planned_more, targets_more}
 use Rattle.sc_core.proofs.BodyLemmas.{position_map}
-use Rattle.sc_core.proofs.FoundLemmas.{is_at}
-use Rattle.sc_core.proofs.GivenLemmas.{all_both}
-use Rattle.sc_core.proofs.MoveLemmas.{due_in, events_moved, fire_moves, given_in, ticked}
+use Rattle.sc_machine.proofs.FoundLemmas.{is_at}
+use Rattle.sc_machine.proofs.GivenLemmas.{all_both}
+use Rattle.sc_machine.proofs.MoveLemmas.{due_in, events_moved, fire_moves, given_in, ticked}
 use Rattle.sc_core.proofs.SetLemmas.{image_at}
 
 -- ---- what a send makes is what it does

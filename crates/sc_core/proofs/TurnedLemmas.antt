@@ -16,11 +16,11 @@ use Rattle.sc_types.specs.declared.session.SessionState.{SessionState}
 use Rattle.sc_law.specs.Turn.{TurnResult}
 use Rattle.sc_core.specs.Births.{sight, sights}
 use Rattle.sc_core.specs.Changes.{put_state, take_front}
-use Rattle.sc_core.specs.Commands.{fresh_session, put_in, step_turn}
-use Rattle.sc_core.specs.Deliveries.{DeliveredAll, deliver, deliver_all}
-use Rattle.sc_core.specs.Endings.{end_at}
+use Rattle.sc_machine.specs.Commands.{fresh_session, put_in, step_turn}
+use Rattle.sc_machine.specs.Deliveries.{DeliveredAll, deliver, deliver_all}
+use Rattle.sc_machine.specs.Endings.{end_at}
 use Rattle.sc_core.specs.Drafts.{AreNumbered, DraftsAll, IsBase, IsDraft, IsOfStep, IsSender, Notes, Stepper, own, so_far, stepper}
-use Rattle.sc_core.specs.Hosts.{with_session}
+use Rattle.sc_machine.specs.Hosts.{with_session}
 use Rattle.sc_core.specs.HostStates.{ArePlanned}
 use Rattle.sc_core.specs.Installing.{AreRoomy, CanApplyAll, HaveTargets, IsRoomy, installed, new_rooms, room_at}
 use Rattle.sc_core.specs.Newborns.{AreAlike}
@@ -35,8 +35,8 @@ use Rattle.sc_core.proofs.AimLemmas.{set_here}
 use Rattle.sc_core.proofs.AppendLemmas.{can_more, installed_more, planned_more, targets_more}
 use Rattle.sc_core.proofs.BirthLemmas.{grown_long, sights_long}
 use Rattle.sc_core.proofs.DraftLemmas.{put_long}
-use Rattle.sc_core.proofs.GivenLemmas.{all_both}
-use Rattle.sc_core.proofs.MoveLemmas.{commands_moves, end_moves}
+use Rattle.sc_machine.proofs.GivenLemmas.{all_both}
+use Rattle.sc_machine.proofs.MoveLemmas.{commands_moves, end_moves}
 use Rattle.sc_core.proofs.NewbornLemmas.{alike_count, all_alike, planned_alike}
 
 -- ---- the state after the turn is put in

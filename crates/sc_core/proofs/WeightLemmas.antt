@@ -5,7 +5,7 @@ use Rattle.sc_types.specs.declared.value.Value.TheVariants as value
 use Rattle.sc_types.specs.declared.value.Value.TheFolds.{fold-roll-Value}
 use Rattle.sc_types.specs.declared.value.Value.TheOpen.{Value-F}
 use Rattle.std.proofs.lemmas.List.Sums.{sum_by-cons}
-use Rattle.sc_core.specs.Commands.{weight, weight_step}
+use Rattle.sc_machine.specs.Commands.{weight, weight_step}
 
 -- a truth weighs 16
 pub weight_truth : (b : Bool) → weight (value.Bool b) ≡ 16

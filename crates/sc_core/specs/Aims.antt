@@ -10,8 +10,8 @@ use Rattle.sc_types.specs.declared.host.InvokerImage.{InvokerImage}
 use Rattle.sc_types.specs.declared.host.SessionImage.{SessionImage}
 use Rattle.sc_types.specs.declared.host.To.{To}
 use Rattle.sc_types.specs.declared.session.Phase.{Phase}
-use Rattle.sc_core.specs.Deliveries.{Delivered, arriving, is_cut_from, left_as, queue, receiver_name, unreachable, while_live}
-use Rattle.sc_core.specs.Hosts.{session_named}
+use Rattle.sc_machine.specs.Deliveries.{Delivered, arriving, is_cut_from, left_as, queue, receiver_name, unreachable, while_live}
+use Rattle.sc_machine.specs.Hosts.{session_named}
 use Rattle.sc_core.specs.declared.aims.Aim.{Aim}
 use Rattle.sc_core.specs.declared.aims.Aim.TheVariants.{Reaches, Fails, Drops}
 

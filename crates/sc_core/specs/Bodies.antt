@@ -8,7 +8,7 @@ use Rattle.sc_types.specs.declared.host.InvokerImage.{InvokerImage}
 use Rattle.sc_types.specs.declared.host.SessionImage.{SessionImage}
 use Rattle.sc_base.specs.Ascending.{with_number}
 use Rattle.std.specs.List.{list_any}
-use Rattle.sc_core.specs.Cues.{is_ready}
+use Rattle.sc_machine.specs.Cues.{is_ready}
 use Rattle.sc_core.specs.declared.body.Body.{Body}
 use Rattle.sc_core.specs.declared.body.InstalledChart.{InstalledChart}
 use Rattle.sc_core.specs.declared.session.Session.{Session}

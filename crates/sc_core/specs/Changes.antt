@@ -12,9 +12,9 @@ use Rattle.sc_types.specs.declared.session.SessionState.{SessionState}
 use Rattle.sc_types.specs.declared.host.ChartImage.{ChartImage}
 use Rattle.sc_core.specs.Bodies.{session_image}
 use Rattle.sc_core.specs.declared.session.Session.{Session}
-use Rattle.sc_core.specs.Deliveries.{cut_off, queue, without_invoke}
-use Rattle.sc_core.specs.Endings.{cleared}
-use Rattle.sc_core.specs.Hosts.{with_session}
+use Rattle.sc_machine.specs.Deliveries.{cut_off, queue, without_invoke}
+use Rattle.sc_machine.specs.Endings.{cleared}
+use Rattle.sc_machine.specs.Hosts.{with_session}
 
 -- the session at a place is changed
 abbrev pub at_session : HostImage → ℕ → (SessionImage → SessionImage) → HostImage

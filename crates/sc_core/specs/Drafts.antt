@@ -10,7 +10,7 @@ use Rattle.sc_types.specs.declared.session.Phase.TheVariants.{Fresh}
 use Rattle.sc_types.specs.declared.session.SessionState.{SessionState}
 use Rattle.sc_core.specs.Births.{IsGrown, sights}
 use Rattle.sc_core.specs.Changes.{put_state}
-use Rattle.sc_core.specs.Deliveries.{Delivered, DeliveredAll}
+use Rattle.sc_machine.specs.Deliveries.{Delivered, DeliveredAll}
 use Rattle.sc_core.specs.Installing.{CanApplyAll, HaveTargets, installed}
 use Rattle.sc_core.specs.declared.change.Change.{Change}
 use Rattle.sc_core.specs.declared.change.Change.TheVariants.{Bear, CutOff, Delay, DropInvoke, Queue, Tell, Undo}

@@ -6,7 +6,7 @@ use Rattle.sc_types.specs.declared.host.HostImage.{HostImage}
 use Rattle.sc_types.specs.declared.host.TimerImage.{TimerImage}
 use Rattle.sc_types.specs.declared.limits.TheConstants.{CLOCK_LIMIT}
 use Rattle.sc_law.specs.LegalCharts.{legal_chart_of}
-use Rattle.sc_core.specs.FittingHosts.{FitsChart}
+use Rattle.sc_machine.specs.FittingHosts.{FitsChart}
 use Rattle.sc_core.specs.Installing.{AreRoomy, CanApplyAll, HaveTargets, installed, new_rooms, room_at}
 use Rattle.sc_core.specs.declared.body.InstalledChart.{InstalledChart}
 use Rattle.sc_core.specs.declared.change.Change.{Change}

@@ -6,8 +6,8 @@ use Rattle.sc_law.specs.Legality.{legal_fault}
 use Rattle.sc_types.specs.declared.chart.Chart.{Chart}
 use Rattle.sc_types.specs.declared.host.HostImage.{HostImage}
 use Rattle.sc_types.specs.declared.host.SessionImage.{SessionImage}
-use Rattle.sc_core.specs.Cues.{cue_of}
-use Rattle.sc_core.specs.Hosts.{chart_named}
+use Rattle.sc_machine.specs.Cues.{cue_of}
+use Rattle.sc_machine.specs.Hosts.{chart_named}
 use Rattle.sc_core.specs.declared.inputs.TurnInput.{TurnInput}
 
 -- The plan of the session's chart, its state and its cue; and an engine can compute the turn.

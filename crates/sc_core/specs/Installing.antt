@@ -7,7 +7,7 @@ use Rattle.sc_types.specs.declared.host.SessionImage.{SessionImage}
 use Rattle.sc_types.specs.declared.host.TimerImage.{TimerImage}
 use Rattle.sc_core.specs.Bodies.{children_room, failure_room, inviter, queue_room}
 use Rattle.sc_core.specs.Changes.{IsFirstDue, clear_at, cut_off_at, drop_invoke, flag, lose, put_state, queue_at, take_front, tell, with_chart, with_send_pending, with_started, without_sends}
-use Rattle.sc_core.specs.Hosts.{chart_place, session_place}
+use Rattle.sc_machine.specs.Hosts.{chart_place, session_place}
 use Rattle.sc_core.specs.declared.body.Body.{Body}
 use Rattle.sc_core.specs.declared.body.InstalledChart.{InstalledChart}
 use Rattle.sc_core.specs.declared.change.Change.{Change}

@@ -9,7 +9,7 @@ use Rattle.sc_types.specs.declared.command.Reply.TheVariants.{Posted, Stepped}
 use Rattle.sc_types.specs.declared.history.Entry.{Entry}
 use Rattle.sc_types.specs.declared.history.Who.TheVariants.{Worker}
 use Rattle.sc_types.specs.declared.session.CueName.TheVariants.{Fresh}
-use Rattle.sc_core.specs.Accepted.{accepted_steps}
+use Rattle.sc_machine.specs.Accepted.{accepted_steps}
 use Rattle.sc_core.specs.Showing.{posted_entry, stepped_entry}
 use Rattle.sc_core.specs.declared.kept.Kept.{Kept}
 use Rattle.sc_core.specs.declared.kept.Kept.TheVariants as kept

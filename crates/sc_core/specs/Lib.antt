@@ -1,19 +1,11 @@
-pub mod Accepted
 pub mod Aims
 pub mod Births
 pub mod Bodies
 pub mod Changes
 pub mod ChangeLists
 pub mod Closing
-pub mod Commands
 pub mod Counting
-pub mod Cues
-pub mod Deliveries
 pub mod Drafts
-pub mod Endings
-pub mod FittingHosts
-pub mod Histories
-pub mod Hosts
 pub mod Inputs
 pub mod Keeping
 pub mod Makings
@@ -24,6 +16,5 @@ pub mod Preparing
 pub mod Showing
 pub mod Stepping
 pub mod Ticking
-pub mod Waiting
 pub mod Holding
 pub mod HostStates

@@ -7,12 +7,12 @@ use Rattle.sc_types.specs.declared.history.Delivery.{Delivery}
 use Rattle.sc_types.specs.declared.history.Delivery.TheVariants.{Flagged}
 use Rattle.sc_types.specs.declared.host.HostImage.{HostImage}
 use Rattle.sc_types.specs.declared.host.InvokerImage.{InvokerImage}
-use Rattle.sc_core.specs.Hosts.{is_live}
+use Rattle.sc_machine.specs.Hosts.{is_live}
 use Rattle.sc_core.specs.Installing.{CanApplyAll, HaveTargets, installed}
 use Rattle.sc_core.specs.Preparing.{InstallNone}
 use Rattle.sc_core.specs.declared.change.Change.{Change}
 use Rattle.sc_core.specs.declared.change.Change.TheVariants.{CutOff}
-use Rattle.sc_core.specs.Endings.{end_at}
+use Rattle.sc_machine.specs.Endings.{end_at}
 use Rattle.sc_core.specs.declared.draft.Draft.{Draft}
 use Rattle.sc_core.specs.declared.draft.Placed.{Placed}
 use Rattle.sc_core.specs.declared.session.Session.{Session}

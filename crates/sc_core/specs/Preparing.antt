@@ -11,9 +11,9 @@ use Rattle.sc_types.specs.declared.session.Cue.{Cue}
 use Rattle.sc_types.specs.declared.session.Phase.TheVariants.{Running}
 use Rattle.sc_law.specs.Fitting.{Fits}
 use Rattle.sc_law.specs.Turn.{turn}
-use Rattle.sc_core.specs.Commands.{Answer, refused, step}
-use Rattle.sc_core.specs.Cues.{cue_of}
-use Rattle.sc_core.specs.Hosts.{chart_named, session_named}
+use Rattle.sc_machine.specs.Commands.{Answer, refused, step}
+use Rattle.sc_machine.specs.Cues.{cue_of}
+use Rattle.sc_machine.specs.Hosts.{chart_named, session_named}
 use Rattle.sc_core.specs.HostStates.{ArePlanned}
 use Rattle.sc_core.specs.Installing.{AreRoomy, CanApplyAll, HaveTargets, installed}
 use Rattle.sc_core.specs.declared.change.Change.{Change}

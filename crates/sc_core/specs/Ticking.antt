@@ -13,7 +13,7 @@ use Rattle.sc_types.specs.declared.session.Phase.{Phase}
 use Rattle.sc_law.specs.Runs.{platform_event}
 use Rattle.sc_core.specs.Aims.{aim, invokeid_for}
 use Rattle.sc_core.specs.Changes.{numbered, with_invokeid}
-use Rattle.sc_core.specs.Hosts.{is_running, session_named}
+use Rattle.sc_machine.specs.Hosts.{is_running, session_named}
 use Rattle.sc_core.specs.declared.aims.Aim.{Aim}
 use Rattle.sc_core.specs.declared.aims.Aim.TheVariants.{Reaches, Fails, Drops}
 use Rattle.sc_core.specs.declared.change.Change.{Change}

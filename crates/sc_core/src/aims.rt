@@ -4,8 +4,8 @@ ghost use Rattle.sc_core.specs.Aims.{AimsWithin, aim, aim_found, invokeid_for};
 ghost use Rattle.sc_core.specs.Births.{IsGrown, birth_place};
 ghost use Rattle.sc_core.specs.Bodies.{Agrees, image};
 ghost use Rattle.sc_core.specs.Changes.{put_state};
-ghost use Rattle.sc_core.specs.Deliveries.{is_cut_from, receiver_name, while_live};
-ghost use Rattle.sc_core.specs.Hosts.{is_live, session_named};
+ghost use Rattle.sc_machine.specs.Deliveries.{is_cut_from, receiver_name, while_live};
+ghost use Rattle.sc_machine.specs.Hosts.{is_live, session_named};
 ghost use Rattle.sc_types.specs.declared.host.HostImage.{HostImage};
 ghost use Rattle.sc_types.specs.declared.host.SessionImage.{SessionImage};
 

@@ -1,5 +1,5 @@
 ghost use Rattle.std.specs.Prelude.{◌≡◌, [], find, nat_le};
-ghost use Rattle.sc_core.specs.Hosts.{empty_host, session_place, chart_place};
+ghost use Rattle.sc_machine.specs.Hosts.{empty_host, session_place, chart_place};
 ghost use Rattle.sc_core.specs.Bodies.{Agrees, cued, image};
 
 use crate::session::Session;

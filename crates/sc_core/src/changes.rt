@@ -2,7 +2,7 @@ ghost use Rattle.std.specs.Prelude.{◌≡◌, ◌+◌, ◌^◌, ◌<◌, ◌≤
 ghost use Rattle.std.specs.Option.{option_map_or};
 ghost use Rattle.sc_core.specs.Bodies.{Agrees, Makes, failure_room, image, marked, queue_room};
 ghost use Rattle.sc_core.specs.Changes.{clear_at, flag, put_state, queue_at, take_front, tell};
-ghost use Rattle.sc_core.specs.Hosts.{is_live};
+ghost use Rattle.sc_machine.specs.Hosts.{is_live};
 ghost use Rattle.sc_core.specs.declared.session.Session.{Session};
 
 use crate::body::Body;

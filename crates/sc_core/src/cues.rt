@@ -1,6 +1,6 @@
 ghost use Rattle.std.specs.Prelude.{◌≡◌, ◌++◌, IfOk};
 ghost use Rattle.sc_core.specs.Bodies.{session_image};
-ghost use Rattle.sc_core.specs.Cues.{cue_of, name_of, outer_cue, queued_cue, waiting_cue};
+ghost use Rattle.sc_machine.specs.Cues.{cue_of, name_of, outer_cue, queued_cue, waiting_cue};
 
 use crate::session::Session;
 use sc_base::{NoMemory, Plain, Shared};

@@ -2,9 +2,9 @@ ghost use Rattle.std.specs.Prelude.{ℕ, ◌≡◌, ◌++◌, [], ◌∷◌, ◌
 ghost use Rattle.sc_core.specs.Bodies.{Agrees, image, session_image};
 ghost use Rattle.sc_core.specs.Changes.{numbered};
 ghost use Rattle.sc_core.specs.Counting.{count_after};
-ghost use Rattle.sc_core.specs.Deliveries.{delay_send, deliver, deliver_of, send_named, send_now, undo, unreachable};
+ghost use Rattle.sc_machine.specs.Deliveries.{delay_send, deliver, deliver_of, send_named, send_now, undo, unreachable};
 ghost use Rattle.sc_core.specs.Drafts.{Drafts, IsDraft, IsSender, Notes, so_far, stepper};
-ghost use Rattle.sc_core.specs.Hosts.{is_live};
+ghost use Rattle.sc_machine.specs.Hosts.{is_live};
 ghost use Rattle.sc_core.specs.declared.change.Change.TheVariants as change;
 ghost use Rattle.sc_types.specs.Sends.{is_send};
 ghost use Rattle.sc_types.specs.declared.event.Event.{Event};

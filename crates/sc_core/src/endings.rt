@@ -3,7 +3,7 @@ ghost use Rattle.sc_core.specs.Births.{IsGrown};
 ghost use Rattle.sc_core.specs.Bodies.{Agrees, image};
 ghost use Rattle.sc_core.specs.Changes.{put_state};
 ghost use Rattle.sc_core.specs.Drafts.{IsSender, so_far};
-ghost use Rattle.sc_core.specs.Endings.{end_event, tell_end, tell_invoker};
+ghost use Rattle.sc_machine.specs.Endings.{end_event, tell_end, tell_invoker};
 ghost use Rattle.sc_core.specs.Parting.{Adds, DraftsEnd, cut_changes, cut_told, cuts, is_cut, is_cut_in, is_left, left_if, new_left, old_left, put_left};
 ghost use Rattle.sc_core.specs.declared.session.Session.{Session};
 ghost use Rattle.sc_types.specs.declared.host.HostImage.{HostImage};

@@ -1,7 +1,7 @@
 ghost use Rattle.std.specs.Prelude.{◌≡◌, ◌++◌, [], true, IfOk, codes};
 ghost use Rattle.sc_base.specs.Text.{is_name};
-ghost use Rattle.sc_core.specs.Deliveries.{unborn_event};
-ghost use Rattle.sc_core.specs.Endings.{end_event, name_in, runaway_event};
+ghost use Rattle.sc_machine.specs.Deliveries.{unborn_event};
+ghost use Rattle.sc_machine.specs.Endings.{end_event, name_in, runaway_event};
 ghost use Rattle.sc_core.specs.Ticking.{failure_of};
 ghost use Rattle.sc_types.specs.declared.event.Kind.TheVariants.{External};
 

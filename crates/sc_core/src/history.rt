@@ -1,6 +1,6 @@
 ghost use Rattle.std.specs.Prelude.{◌≡◌, ◌+◌, ◌<◌, ◌≤◌, ◌↔◌, [], ◌∷◌, ◌++◌, slice_get, length, IsTrue, OnOk};
 ghost use Rattle.std.specs.Option.{option_map};
-ghost use Rattle.sc_core.specs.Accepted.{accepted_steps, is_accepted_step};
+ghost use Rattle.sc_machine.specs.Accepted.{accepted_steps, is_accepted_step};
 ghost use Rattle.sc_core.specs.Showing.{shown_entry};
 
 use crate::kept::{Shown, Store};

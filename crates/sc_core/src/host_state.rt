@@ -2,7 +2,7 @@ ghost use Rattle.std.specs.Prelude.{◌≡◌, OnOk, find, nat_le};
 ghost use Rattle.sc_core.specs.Bodies.{cued};
 ghost use Rattle.sc_core.specs.HostStates.{CanInstall, CanMake};
 ghost use Rattle.sc_core.specs.Installing.{installed};
-ghost use Rattle.sc_core.specs.Hosts.{empty_host};
+ghost use Rattle.sc_machine.specs.Hosts.{empty_host};
 
 use crate::body::Body;
 use crate::prepared::Prepared;

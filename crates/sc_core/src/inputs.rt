@@ -1,6 +1,6 @@
 ghost use Rattle.std.specs.Prelude.{◌≡◌, ◌<◌, [], IfOk, Some, length, option_map, slice_get};
 ghost use Rattle.sc_core.specs.Bodies.{image};
-ghost use Rattle.sc_core.specs.Cues.{cue_of};
+ghost use Rattle.sc_machine.specs.Cues.{cue_of};
 ghost use Rattle.sc_core.specs.Holding.{IsHeld};
 ghost use Rattle.sc_core.specs.Inputs.{IsInput, IsInputAt};
 ghost use Rattle.sc_core.specs.declared.session.Session.{Session};

@@ -1,10 +1,10 @@
 ghost use Rattle.std.specs.Prelude.{ℕ, ◌≡◌, ◌+◌, ◌^◌, ◌<◌, ◌≤◌, [], None, Some, false, true, is_some, IfOk, OnOk, length, option_map, slice_get};
 ghost use Rattle.sc_core.specs.Bodies.{Agrees, image, session_image};
-ghost use Rattle.sc_core.specs.Deliveries.{born, cancel_child, hand_to, invoke, live_child, may_bear, unborn, while_live};
+ghost use Rattle.sc_machine.specs.Deliveries.{born, cancel_child, hand_to, invoke, live_child, may_bear, unborn, while_live};
 ghost use Rattle.sc_core.specs.Drafts.{Drafts, IsSender, so_far, stepper};
 ghost use Rattle.sc_core.specs.Births.{IsGrown};
 ghost use Rattle.sc_core.specs.Changes.{put_state};
-ghost use Rattle.sc_core.specs.Hosts.{session_named, session_place};
+ghost use Rattle.sc_machine.specs.Hosts.{session_named, session_place};
 ghost use Rattle.sc_law.specs.Runs.{fresh_state};
 ghost use Rattle.sc_types.specs.declared.host.HostImage.{HostImage};
 ghost use Rattle.sc_types.specs.declared.host.SessionImage.{SessionImage};
@@ -19,12 +19,10 @@ use crate::failures::unborn_event;
 use crate::session::{Session, is_running};
 use crate::starts::fresh_state;
 use sc_base::{Boxed, NoMemory, Plain, Sequence, SharedBytes, Word};
+use sc_machine::CHILD_NAME_LIMIT;
 use sc_rooms::RoomyQueue;
 use sc_types::{Delivery, Event, INVOKE_DEPTH_LIMIT, InvokerImage, PairList, SessionState};
 use std::alloc::Global;
-
-/// The most bytes of the name of an invoked session.
-const CHILD_NAME_LIMIT: usize = 65_535;
 
 /// A session to be started: the id of the invocation, the session's name, its chart's, and what it is started with.
 /// SCXML 6.4.

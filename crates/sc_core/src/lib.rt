@@ -1,6 +1,5 @@
-//! The host machine, defined: what the host answers to each command, what becomes of what a turn asks for, which
-//! histories are legal, and that no legal history consumes an event twice. And the host's body, for any engine: a
-//! command is prepared with all its memory, and then installed without any.
+//! The host's body, for any engine: it does what the host machine of `sc_machine` does. A command is prepared with all
+//! its memory, and then installed without any.
 #![tactic(auto)]
 
 mod additions;

@@ -1,8 +1,8 @@
 ghost use Rattle.std.specs.Prelude.{◌≡◌, ◌<◌, IfOk, Some, length, slice_get};
 ghost use Rattle.std.specs.Arc.{arc_value};
 ghost use Rattle.std.specs.Option.{option_copied};
-ghost use Rattle.sc_core.specs.Cues.{cue_of, ready};
-ghost use Rattle.sc_core.specs.Hosts.{chart_named};
+ghost use Rattle.sc_machine.specs.Cues.{cue_of, ready};
+ghost use Rattle.sc_machine.specs.Hosts.{chart_named};
 ghost use Rattle.sc_types.specs.declared.host.SessionImage.{SessionImage};
 
 use crate::cues::cue_of;

@@ -4,9 +4,9 @@ ghost use Rattle.std.specs.Option.{option_copied};
 ghost use Rattle.sc_law.specs.Fitting.{Fits};
 ghost use Rattle.sc_law.specs.Turn.{turn};
 ghost use Rattle.sc_core.specs.Bodies.{Agrees, image};
-ghost use Rattle.sc_core.specs.Cues.{cue_of};
+ghost use Rattle.sc_machine.specs.Cues.{cue_of};
 ghost use Rattle.sc_core.specs.Holding.{IsHeld};
-ghost use Rattle.sc_core.specs.Hosts.{chart_named, chart_place};
+ghost use Rattle.sc_machine.specs.Hosts.{chart_named, chart_place};
 ghost use Rattle.sc_core.specs.declared.session.Session.{Session};
 ghost use Rattle.sc_types.specs.declared.host.SessionImage.{SessionImage};
 

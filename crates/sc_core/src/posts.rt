@@ -1,7 +1,7 @@
 ghost use Rattle.std.specs.Prelude.{◌≡◌, ◌+◌, ◌^◌, ◌<◌, Some, IfOk, IfSome, length, option_map, slice_get};
 ghost use Rattle.sc_core.specs.Bodies.{Agrees, image, session_image};
-ghost use Rattle.sc_core.specs.Commands.{cancel, post, posted_event};
-ghost use Rattle.sc_core.specs.Hosts.{session_named};
+ghost use Rattle.sc_machine.specs.Commands.{cancel, post, posted_event};
+ghost use Rattle.sc_machine.specs.Hosts.{session_named};
 ghost use Rattle.sc_core.specs.Preparing.{InstallNone, Prepares};
 ghost use Rattle.sc_law.specs.Runs.{pairs_data};
 

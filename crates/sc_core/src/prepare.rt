@@ -1,9 +1,9 @@
 ghost use Rattle.std.specs.Prelude.{◌≡◌, ◌<◌, ◌≤◌, ◌^◌, IfOk, OnOk, Some, length, slice_get};
 ghost use Rattle.sc_core.specs.Bodies.{Agrees, Keeps, image};
-ghost use Rattle.sc_core.specs.Commands.{answer, step, step_turn};
-ghost use Rattle.sc_core.specs.Cues.{cue_of};
+ghost use Rattle.sc_machine.specs.Commands.{answer, step, step_turn};
+ghost use Rattle.sc_machine.specs.Cues.{cue_of};
 ghost use Rattle.sc_core.specs.Holding.{IsHeld};
-ghost use Rattle.sc_core.specs.Hosts.{chart_named, session_named};
+ghost use Rattle.sc_machine.specs.Hosts.{chart_named, session_named};
 ghost use Rattle.sc_core.specs.HostStates.{ArePlanned, CanInstall};
 ghost use Rattle.sc_core.specs.Preparing.{FitsOn, InstallNone, IsNext, Prepares, StepFits};
 ghost use Rattle.sc_law.specs.Turn.{turn};

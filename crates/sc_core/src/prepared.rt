@@ -1,5 +1,5 @@
 ghost use Rattle.std.specs.Prelude.{◌≡◌, [], ◌∷◌, IfOk};
-ghost use Rattle.sc_core.specs.Accepted.{is_accepted};
+ghost use Rattle.sc_machine.specs.Accepted.{is_accepted};
 
 use crate::change::Change;
 use crate::change_list::ChangeList;

@@ -1,6 +1,6 @@
 ghost use Rattle.std.specs.Prelude.{◌≡◌, ◌++◌};
-ghost use Rattle.sc_core.specs.Cues.{is_ready};
-ghost use Rattle.sc_core.specs.Hosts.{is_live, is_running};
+ghost use Rattle.sc_machine.specs.Cues.{is_ready};
+ghost use Rattle.sc_machine.specs.Hosts.{is_live, is_running};
 ghost use Rattle.sc_core.specs.Bodies.{session_image};
 
 use sc_base::{Boxed, Shared};

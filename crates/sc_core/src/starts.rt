@@ -1,7 +1,7 @@
 ghost use Rattle.std.specs.Prelude.{◌≡◌, ◌+◌, ◌^◌, ◌<◌, [], Ok, IfOk, false};
 ghost use Rattle.sc_core.specs.Bodies.{Agrees, image, session_image};
-ghost use Rattle.sc_core.specs.Commands.{fresh_session, has_slash, install, install_read, start};
-ghost use Rattle.sc_core.specs.Hosts.{has_chart, session_place};
+ghost use Rattle.sc_machine.specs.Commands.{fresh_session, has_slash, install, install_read, start};
+ghost use Rattle.sc_machine.specs.Hosts.{has_chart, session_place};
 ghost use Rattle.sc_core.specs.HostStates.{ArePlanned};
 ghost use Rattle.sc_core.specs.Preparing.{InstallNone, Prepares};
 ghost use Rattle.sc_law.specs.LegalCharts.{legal_chart_of};

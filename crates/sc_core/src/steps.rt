@@ -1,7 +1,7 @@
 ghost use Rattle.std.specs.Prelude.{◌≡◌, ◌+◌, ◌^◌, ◌<◌, ◌≤◌, Some, IfOk, length, option_map, slice_get};
 ghost use Rattle.sc_core.specs.Bodies.{Agrees, image};
-ghost use Rattle.sc_core.specs.Commands.{step_turn};
-ghost use Rattle.sc_core.specs.Deliveries.{deliver_all};
+ghost use Rattle.sc_machine.specs.Commands.{step_turn};
+ghost use Rattle.sc_machine.specs.Deliveries.{deliver_all};
 ghost use Rattle.sc_core.specs.Drafts.{AreNumbered, DraftsAll, IsBase, stepper};
 ghost use Rattle.sc_core.specs.Preparing.{InstallNone, Prepares};
 ghost use Rattle.sc_types.specs.declared.host.HostImage.{HostImage};

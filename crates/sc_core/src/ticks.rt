@@ -1,7 +1,7 @@
 ghost use Rattle.std.specs.Prelude.{◌≡◌, ◌+◌, ◌^◌, ◌<◌, ◌≤◌, [], ◌∷◌, ◌++◌, None, Some, IfOk, MatchOption, OnOk, drop, filter, if◌then◌else◌, length, nat_lt, option_map, slice_get};
 ghost use Rattle.sc_core.specs.Bodies.{Agrees, image};
-ghost use Rattle.sc_core.specs.Commands.{advance, tick};
-ghost use Rattle.sc_core.specs.Deliveries.{is_due};
+ghost use Rattle.sc_machine.specs.Commands.{advance, tick};
+ghost use Rattle.sc_machine.specs.Deliveries.{is_due};
 ghost use Rattle.sc_core.specs.Preparing.{InstallNone, Prepares};
 ghost use Rattle.sc_core.specs.Ticking.{Adds, fired, fired_at, fired_failed, fired_lost};
 ghost use Rattle.sc_core.specs.declared.session.Session.{Session};

@@ -1,6 +1,6 @@
 ghost use Rattle.std.specs.Prelude.{◌≡◌, ◌+◌, ◌-◌, ◌^◌, min, nat_lt, length, sum_by};
 ghost use Rattle.sc_types.specs.declared.limits.TheConstants.{POST_WEIGHT_LIMIT};
-ghost use Rattle.sc_core.specs.Commands.{pair_weight, weight, weight_of};
+ghost use Rattle.sc_machine.specs.Commands.{pair_weight, weight, weight_of};
 
 use sc_base::PlainName;
 use sc_types::{POST_WEIGHT_LIMIT, PairList, Value};

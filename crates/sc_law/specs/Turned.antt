@@ -2,8 +2,10 @@
 use Rattle.std.specs.Prelude.{◌≡◌}
 use Rattle.sc_types.specs.declared.chart.Chart.{Chart}
 use Rattle.sc_types.specs.declared.session.Cue.{Cue}
+use Rattle.sc_types.specs.declared.session.Phase.TheVariants as phase
 use Rattle.sc_types.specs.declared.session.SessionState.{SessionState}
 use Rattle.std.specs.Arc.{arc_value}
+use Rattle.sc_law.specs.Fitting.{Fits}
 use Rattle.sc_law.specs.Turn.{TurnResult, turn}
 use Rattle.sc_law.specs.declared.turned.Turned.TheInside.{Inside}
 
@@ -16,9 +18,10 @@ pub record TurnedOf : Type 0 where
 abbrev pub turned : Inside → TurnedOf
 turned t = record { chart = arc_value t.chart; before = t.before; cue = t.cue; given = t.given }
 
--- what it gave is what the turn gives
-abbrev pub IsTurn : TurnedOf → Type 0
-IsTurn t = t.given ≡ turn t.chart t.before t.cue
+-- what it gave is what the turn gives, and a session that goes on running fits the chart
+pub record IsTurn (t : TurnedOf) : Type 0 where
+  pub given : t.given ≡ turn t.chart t.before t.cue
+  pub fits : t.given.after.phase ≡ phase.Running → Fits t.chart t.given.after
 
 -- a turn of this chart, from this session and for this cue
 abbrev pub IsTurnOf : Chart → SessionState → Cue → TurnedOf → Type 0

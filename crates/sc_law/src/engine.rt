@@ -1,9 +1,11 @@
-ghost use Rattle.std.specs.Prelude.{◌≡◌, None, IfOk};
+ghost use Rattle.std.specs.Prelude.{◌≡◌, None, IfOk, option_and_then};
+ghost use Rattle.std.specs.Option.{option_copied};
 ghost use Rattle.std.specs.Arc.{arc_value};
 ghost use Rattle.sc_types.specs.declared.chart.Chart.{Chart};
 ghost use Rattle.sc_types.specs.declared.session.Phase.TheVariants as phase;
 ghost use Rattle.sc_law.specs.Legality.{legal_fault};
 ghost use Rattle.sc_law.specs.Fitting.{Fits, HasCue};
+ghost use Rattle.sc_law.specs.Tree.{id_of as node_id, node_of};
 ghost use Rattle.sc_law.specs.Turn.{turn};
 ghost use Rattle.sc_law.specs.Turned.{IsTurnOf};
 
@@ -25,6 +27,10 @@ pub trait Engine: Sync {
     fn plan(&self, alloc: Global, chart: &Arc<Chart>) -> Result<Self::Plan, NoMemory>
         requires legal { legal_fault (arc_value chart.now) ≡ None }
         ensures { IfOk result (λ plan. chart_of plan ≡ arc_value chart.now) };
+
+    /// The id that the chart of a plan gives a state; none where it gives none, and of a number that is no state's.
+    fn id_of(plan: &Self::Plan, state: u32) -> Option<&[u8]>
+        ensures { option_copied result ≡ option_and_then node_id (node_of (chart_of plan.now) state) };
 
     /// What the turn gives that a session's cue asks for, computed from these three alone. A session that goes on
     /// running fits the chart again, so that its configuration is a legal one.

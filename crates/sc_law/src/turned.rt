@@ -1,5 +1,7 @@
 ghost use Rattle.std.specs.Prelude.{◌≡◌};
 ghost use Rattle.std.specs.Arc.{arc_value};
+ghost use Rattle.sc_types.specs.declared.session.Phase.TheVariants as phase;
+ghost use Rattle.sc_law.specs.Fitting.{Fits};
 ghost use Rattle.sc_law.specs.Turn.{turn};
 ghost use Rattle.sc_law.specs.Turned.{IsTurn};
 
@@ -9,7 +11,8 @@ use std::marker::Model;
 use std::sync::Arc;
 
 /// A turn with what it gave, and what it was computed of: the chart, the session before it and its cue. That it gave
-/// this is kept by the type, so whoever gets one need not know which engine made it.
+/// this, and that a session which goes on running fits its chart, is kept by the type, so whoever gets one need not know
+/// which engine made it.
 #[derive(Drop)]
 pub struct Turned {
     chart: Arc<Chart>,
@@ -42,7 +45,8 @@ impl Model for Turned {
 }
 
 impl Turned {
-    /// A turn that an engine made: what it gave has to be the turn of the chart, the session before it and the cue.
+    /// A turn that an engine made: what it gave has to be the turn of the chart, the session before it and the cue, and
+    /// a session that goes on running has to fit the chart.
     pub fn new(
         chart: Arc<Chart>,
         before: Boxed<SessionState>,
@@ -50,6 +54,7 @@ impl Turned {
         given: TurnResult,
     ) -> Turned
         requires turn { given ≡ turn (arc_value chart) before cue }
+        requires fits { given.after.phase ≡ phase.Running → Fits (arc_value chart) given.after }
         ensures { result ≡ record { chart = arc_value chart; before = before; cue = cue; given = given } }
     {
         Turned {

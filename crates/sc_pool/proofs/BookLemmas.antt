@@ -13,15 +13,15 @@ use Rattle.sc_book.specs.declared.fault.CallFault.TheVariants.{Disk, Full, NoMem
 use Rattle.sc_book.specs.declared.receipt.Receipt.{Receipt}
 use Rattle.sc_book.proofs.ClaimLemmas.{found_at, found_ready, found_within}
 use Rattle.sc_codec.specs.Bodies.{body_of}
-use Rattle.sc_core.specs.Accepted.{after, is_accepted, is_accepted_step}
+use Rattle.sc_machine.specs.Accepted.{after, is_accepted, is_accepted_step}
 use Rattle.sc_core.specs.Bodies.{cued}
-use Rattle.sc_core.specs.Commands.{Answer, answer}
-use Rattle.sc_core.specs.Cues.{cue_of, is_ready, name_of, ready}
-use Rattle.sc_core.specs.Histories.{replay}
-use Rattle.sc_core.specs.Hosts.{empty_host, is_session_named, session_named}
-use Rattle.sc_core.specs.Waiting.{name_at}
-use Rattle.sc_core.proofs.ChangeLemmas.{change_of}
-use Rattle.sc_core.proofs.NameLemmas.{AreDistinct, distinct_kept, has_cue, placed, ready_stepped, step_taken}
+use Rattle.sc_machine.specs.Commands.{Answer, answer}
+use Rattle.sc_machine.specs.Cues.{cue_of, is_ready, name_of, ready}
+use Rattle.sc_machine.specs.Histories.{replay}
+use Rattle.sc_machine.specs.Hosts.{empty_host, is_session_named, session_named}
+use Rattle.sc_machine.specs.Waiting.{name_at}
+use Rattle.sc_machine.proofs.ChangeLemmas.{change_of}
+use Rattle.sc_machine.proofs.NameLemmas.{AreDistinct, distinct_kept, has_cue, placed, ready_stepped, step_taken}
 use Rattle.sc_dev.specs.Causes.{Rose}
 use Rattle.sc_dev.specs.Disks.{DiskOf}
 use Rattle.sc_journal.specs.Journals.{IsFull}

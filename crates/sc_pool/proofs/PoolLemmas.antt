@@ -16,9 +16,9 @@ use Rattle.sc_pool.specs.Clients.{AllMade, IsMade, Marks, TakesNext}
 use Rattle.sc_pool.specs.Keeping.{Follows, HasMade, IsFree, IsSpent, IsWorst, Keeps, Progress, StartsAt, clients_from}
 use Rattle.sc_pool.specs.Plans.{ComesNext, Finished, HaveNoStep, IsPlaced, Planned, script_of}
 use Rattle.sc_pool.specs.Pools.{IsShown, rank, rank_of}
-use Rattle.sc_core.specs.Accepted.{accepted_steps, is_accepted, is_accepted_step}
-use Rattle.sc_core.specs.Commands.{answer}
-use Rattle.sc_core.specs.Histories.{replay}
+use Rattle.sc_machine.specs.Accepted.{accepted_steps, is_accepted, is_accepted_step}
+use Rattle.sc_machine.specs.Commands.{answer}
+use Rattle.sc_machine.specs.Histories.{replay}
 use Rattle.sc_book.specs.Books.{opening}
 use Rattle.sc_pool.specs.Serving.{IsPrefix, commands_of, is_of, is_served, served_by}
 use Rattle.sc_pool.specs.Sharing.{Adds, AddsStep, Fails, FailsToStep, GoesOn, IsDoubted, IsWhy, Seen}

@@ -11,7 +11,7 @@ use Rattle.sc_types.specs.declared.history.Who.{Who}
 use Rattle.sc_types.specs.declared.history.Who.TheVariants.{Client, Worker}
 use Rattle.sc_script.specs.Steps.{IsNoStep}
 use Rattle.sc_pool.specs.Plans.{script_of}
-use Rattle.sc_core.specs.Accepted.{accepted_steps, is_accepted_step}
+use Rattle.sc_machine.specs.Accepted.{accepted_steps, is_accepted_step}
 use Rattle.sc_pool.specs.Serving.{commands_of, is_of, is_served}
 
 abbrev pub with_first : Who → Entry → List Entry → Bool → List Command

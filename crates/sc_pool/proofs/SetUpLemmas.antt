@@ -14,9 +14,9 @@ use Rattle.sc_types.specs.declared.history.Who.{Who}
 use Rattle.sc_types.specs.declared.history.Who.TheVariants.{Client, Worker}
 use Rattle.sc_script.specs.Steps.{HasNoStep, IsNoStep}
 use Rattle.sc_script.specs.declared.script.Script.{Script}
-use Rattle.sc_core.specs.Accepted.{accepted_steps, is_accepted}
-use Rattle.sc_core.specs.Commands.{answer}
-use Rattle.sc_core.specs.Histories.{replay}
+use Rattle.sc_machine.specs.Accepted.{accepted_steps, is_accepted}
+use Rattle.sc_machine.specs.Commands.{answer}
+use Rattle.sc_machine.specs.Histories.{replay}
 use Rattle.sc_pool.specs.Plans.{ComesNext, Finished, IsPlaced, planned, script_of}
 use Rattle.sc_pool.specs.Pools.{CameNext, IsNext, IsNextOf, IsShown, Ran, rank_of}
 use Rattle.sc_pool.specs.Serving.{IsPrefix, Serves, ServesInPart, commands_of, is_later, is_of, is_of_later, is_served, is_setup, is_setup_first, list_of, served_by}

@@ -2,7 +2,7 @@
 use Rattle.std.specs.Prelude.{ℕ, is_some}
 use Rattle.sc_book.specs.Books.{BookOf, IsBook}
 use Rattle.sc_book.specs.Receipts.{most_body}
-use Rattle.sc_core.specs.Cues.{ready}
+use Rattle.sc_machine.specs.Cues.{ready}
 use Rattle.sc_dev.specs.Disks.{DiskOf}
 use Rattle.sc_journal.specs.Journals.{IsFull}
 use Rattle.sc_pool.specs.Sharing.{Seen}

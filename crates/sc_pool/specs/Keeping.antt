@@ -8,7 +8,7 @@ use Rattle.sc_types.specs.declared.history.Entry.{Entry}
 use Rattle.sc_types.specs.declared.history.Who.TheVariants as who
 use Rattle.sc_pool.specs.Plans.{HaveNoStep, IsPlaced, Planned, script_of}
 use Rattle.sc_pool.specs.Pools.{IsShown, rank, rank_of}
-use Rattle.sc_core.specs.Accepted.{accepted_steps}
+use Rattle.sc_machine.specs.Accepted.{accepted_steps}
 use Rattle.sc_pool.specs.Serving.{commands_of, is_served}
 use Rattle.sc_pool.specs.Sharing.{GoesOn, IsSame, Seen}
 use Rattle.sc_pool.specs.declared.client.Client.{Client}

@@ -12,9 +12,9 @@ use Rattle.sc_types.specs.declared.history.Entry.{Entry}
 use Rattle.sc_types.specs.declared.history.Who.{Who}
 use Rattle.sc_types.specs.declared.history.Who.TheVariants.{Client, Worker}
 use Rattle.sc_script.specs.declared.script.Script.{Script}
-use Rattle.sc_core.specs.Accepted.{accepted_steps, is_accepted}
-use Rattle.sc_core.specs.Commands.{answer}
-use Rattle.sc_core.specs.Histories.{replay}
+use Rattle.sc_machine.specs.Accepted.{accepted_steps, is_accepted}
+use Rattle.sc_machine.specs.Commands.{answer}
+use Rattle.sc_machine.specs.Histories.{replay}
 use Rattle.sc_pool.specs.Serving.{IsPrefix, Serves, ServesInPart, commands_of, list_of}
 use Rattle.sc_pool.specs.Sharing.{Seen, GoesOn}
 

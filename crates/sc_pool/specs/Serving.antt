@@ -8,7 +8,7 @@ use Rattle.sc_types.specs.declared.command.Reply.{Reply}
 use Rattle.sc_types.specs.declared.history.Entry.{Entry}
 use Rattle.sc_types.specs.declared.history.Who.{Who}
 use Rattle.sc_types.specs.declared.history.Who.TheVariants.{Client, Worker}
-use Rattle.sc_core.specs.Accepted.{is_accepted_step}
+use Rattle.sc_machine.specs.Accepted.{is_accepted_step}
 
 abbrev pub is_of : Who → Who → Bool
 is_of Worker Worker = true

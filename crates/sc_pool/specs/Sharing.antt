@@ -10,9 +10,9 @@ use Rattle.sc_types.specs.declared.command.Command.TheVariants.{Step}
 use Rattle.sc_types.specs.declared.history.Entry.{Entry}
 use Rattle.sc_types.specs.declared.history.Who.{Who}
 use Rattle.sc_types.specs.declared.history.Who.TheVariants.{Worker}
-use Rattle.sc_core.specs.Accepted.{is_accepted, is_accepted_step}
-use Rattle.sc_core.specs.Commands.{answer}
-use Rattle.sc_core.specs.Histories.{replay}
+use Rattle.sc_machine.specs.Accepted.{is_accepted, is_accepted_step}
+use Rattle.sc_machine.specs.Commands.{answer}
+use Rattle.sc_machine.specs.Histories.{replay}
 
 -- What is seen of a host: how many commands its journal held at the opening, its history and the commands in doubt,
 -- whether a session is ready, how often its disk has failed, which disk it is, whether the journal lacks room for some

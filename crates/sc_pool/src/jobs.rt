@@ -4,7 +4,7 @@ ghost use Rattle.sc_pool.specs.Keeping.{StartsAt, clients_from};
 ghost use Rattle.sc_pool.specs.Plans.{Finished, HaveNoStep, planned};
 ghost use Rattle.sc_pool.specs.Pools.{Ran};
 ghost use Rattle.sc_script.specs.Steps.{HasNoStep};
-ghost use Rattle.sc_core.specs.Accepted.{accepted_steps};
+ghost use Rattle.sc_machine.specs.Accepted.{accepted_steps};
 ghost use Rattle.sc_types.specs.declared.command.Command.{Command};
 
 use crate::client::Client;

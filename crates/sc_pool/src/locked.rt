@@ -3,7 +3,7 @@ ghost use Rattle.sc_pool.specs.Books.{seen_of};
 ghost use Rattle.sc_pool.specs.Clients.{AllMade, IsMade, KeepsMade, Rounds};
 ghost use Rattle.sc_pool.specs.Keeping.{Begins, IsSpent, IsWorst, Keeps, StartsAt, StepsOnce};
 ghost use Rattle.sc_pool.specs.Plans.{HaveNoStep};
-ghost use Rattle.sc_core.specs.Accepted.{accepted_steps};
+ghost use Rattle.sc_machine.specs.Accepted.{accepted_steps};
 
 use crate::book::{answer, claim, commit, give_back, step_first};
 use crate::client::{Client, Taken, mark, take};

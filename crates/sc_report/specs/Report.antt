@@ -10,7 +10,7 @@ use Rattle.sc_types.specs.declared.session.Phase.TheVariants as phase
 use Rattle.sc_types.specs.declared.session.SessionState.{SessionState}
 use Rattle.sc_types.specs.declared.value.Value.{Value}
 use Rattle.sc_types.specs.Values.{value_text}
-use Rattle.sc_core.specs.Hosts.{chart_named}
+use Rattle.sc_machine.specs.Hosts.{chart_named}
 use Rattle.sc_report.specs.declared.end.End.{End}
 use Rattle.sc_report.specs.declared.end.End.TheVariants as end
 use Rattle.sc_report.specs.Lines.{line}

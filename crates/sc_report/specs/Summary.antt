@@ -10,7 +10,7 @@ use Rattle.sc_types.specs.declared.session.Phase.{Phase}
 use Rattle.sc_types.specs.declared.session.Phase.TheVariants as phase
 use Rattle.sc_types.specs.declared.value.Value.{Value}
 use Rattle.sc_types.specs.declared.value.Value.TheVariants.{Int}
-use Rattle.sc_core.specs.Accepted.{accepted_steps}
+use Rattle.sc_machine.specs.Accepted.{accepted_steps}
 use Rattle.sc_report.specs.declared.end.End.{End}
 use Rattle.sc_report.specs.Lines.{line}
 use Rattle.sc_report.specs.Report.{end_word}

@@ -14,14 +14,14 @@ use crate::replies::put_fault;
 use crate::sessions::put_sessions;
 use sc_core::{Closed, HostState};
 use sc_dev::{Failed, Sink};
-use sc_turn::Compiled;
+use sc_law::Engine;
 use sc_types::ChartFault;
 
 /// Writes the report of a run in pieces of 16,384 bytes, the last of which may be shorter: how many commands were
 /// journaled at the opening, what was done since, the host at the end, and the word for how the run ended. It takes no
 /// memory.
-pub fn write_report<D, K: Sink>(
-    closed: &Closed<Compiled, D>,
+pub fn write_report<E: Engine, D, K: Sink>(
+    closed: &Closed<E, D>,
     end: End,
     sink: &mut K,
 ) -> Result<(), Failed>
@@ -36,9 +36,9 @@ pub fn write_report<D, K: Sink>(
 }
 
 /// Puts a report, and hands on all of it.
-fn finish_report<D, K: Sink>(
+fn finish_report<E: Engine, D, K: Sink>(
     out: &mut Outlet<'_, K>,
-    closed: &Closed<Compiled, D>,
+    closed: &Closed<E, D>,
     end: End,
 ) -> Result<(), Failed>
     requires fresh { (out.old.piece ≡ []) × (out.old.has_failed ≡ false) }
@@ -87,7 +87,7 @@ fn put_fault_line<K: Sink>(out: &mut Outlet<'_, K>, fault: &ChartFault)
     out.end_line();
 }
 
-fn put_report<D, K: Sink>(out: &mut Outlet<'_, K>, closed: &Closed<Compiled, D>, end: End)
+fn put_report<E: Engine, D, K: Sink>(out: &mut Outlet<'_, K>, closed: &Closed<E, D>, end: End)
     ensures { Writes K.taken K.faults out.old out.new
         (report closed.now.opened closed.now.host.image closed.now.history.entries end) }
 {
@@ -107,7 +107,7 @@ pub(crate) fn put_end<K: Sink>(out: &mut Outlet<'_, K>, end: End)
     out.end_line();
 }
 
-fn put_clock<K: Sink>(out: &mut Outlet<'_, K>, host: &HostState<Compiled>)
+fn put_clock<E: Engine, K: Sink>(out: &mut Outlet<'_, K>, host: &HostState<E>)
     ensures { Writes K.taken K.faults out.old out.new (line (codes "clock " ++ decimal host.now.image.clock
         ++ codes " timers " ++ decimal (length host.now.image.timers))) }
 {

@@ -11,24 +11,24 @@ use crate::values::put_value;
 use sc_base::PlainName;
 use sc_core::HostState;
 use sc_dev::Sink;
-use sc_turn::{Compiled, Plan};
+use sc_law::Engine;
 use sc_types::{Phase, SessionState, Value};
 
 /// A state of this chart by its id, or by its number where it has none.
-fn put_state<K: Sink>(out: &mut Outlet<'_, K>, plan: &Plan, state: u32)
-    ensures { Writes K.taken K.faults out.old out.new (state_text plan.now state) }
+fn put_state<E: Engine, K: Sink>(out: &mut Outlet<'_, K>, plan: &E::Plan, state: u32)
+    ensures { Writes K.taken K.faults out.old out.new (state_text (E.chart_of plan.now) state) }
 {
-    match plan.id_of(state) {
+    match E::id_of(plan, state) {
         Some(id) => out.texts(&[b" ", id]),
         None => out.counted(b" #", state),
     }
 }
 
-fn put_ids<K: Sink>(out: &mut Outlet<'_, K>, plan: &Plan, states: &[u32])
-    ensures { Writes K.taken K.faults out.old out.new (flat_map (state_text plan.now) states.now) }
+fn put_ids<E: Engine, K: Sink>(out: &mut Outlet<'_, K>, plan: &E::Plan, states: &[u32])
+    ensures { Writes K.taken K.faults out.old out.new (flat_map (state_text (E.chart_of plan.now)) states.now) }
 {
     for state in states {
-        put_state(out, plan, *state);
+        put_state::<E, K>(out, plan, *state);
     }
 }
 
@@ -61,58 +61,68 @@ fn put_data<K: Sink>(out: &mut Outlet<'_, K>, values: &[(PlainName, Option<Value
     }
 }
 
-fn put_active<K: Sink>(out: &mut Outlet<'_, K>, plan: &Plan, state: &SessionState)
+fn put_active<E: Engine, K: Sink>(out: &mut Outlet<'_, K>, plan: &E::Plan, state: &SessionState)
     ensures { Writes K.taken K.faults out.old out.new
-        (line (codes "live in" ++ flat_map (state_text plan.now) state.now.configuration)) }
+        (line (codes "live in" ++ flat_map (state_text (E.chart_of plan.now)) state.now.configuration)) }
 {
     out.bytes(b"live in");
-    put_ids(out, plan, state.configuration.slice());
+    put_ids::<E, K>(out, plan, state.configuration.slice());
     out.end_line();
 }
 
-fn put_live<K: Sink>(out: &mut Outlet<'_, K>, plan: &Plan, state: &SessionState, queued: usize)
-    ensures { Writes K.taken K.faults out.old out.new (live_text plan.now state.now queued) }
+fn put_live<E: Engine, K: Sink>(
+    out: &mut Outlet<'_, K>,
+    plan: &E::Plan,
+    state: &SessionState,
+    queued: usize,
+)
+    ensures { Writes K.taken K.faults out.old out.new (live_text (E.chart_of plan.now) state.now queued) }
 {
-    put_active(out, plan, state);
+    put_active::<E, K>(out, plan, state);
     put_data(out, state.values.slice());
     out.counted_line(b"# ", queued);
 }
 
-fn put_phase<K: Sink>(out: &mut Outlet<'_, K>, plan: &Plan, state: &SessionState, queued: usize)
-    ensures { Writes K.taken K.faults out.old out.new (phase_text plan.now state.now queued state.now.phase) }
+fn put_phase<E: Engine, K: Sink>(
+    out: &mut Outlet<'_, K>,
+    plan: &E::Plan,
+    state: &SessionState,
+    queued: usize,
+)
+    ensures { Writes K.taken K.faults out.old out.new (phase_text (E.chart_of plan.now) state.now queued state.now.phase) }
 {
     match &state.phase {
         Phase::Ended(how) => {
             put_how(out, how);
             out.end_line();
         }
-        Phase::Fresh => put_live(out, plan, state, queued),
-        Phase::Running => put_live(out, plan, state, queued),
+        Phase::Fresh => put_live::<E, K>(out, plan, state, queued),
+        Phase::Running => put_live::<E, K>(out, plan, state, queued),
     }
 }
 
-fn put_state_line<K: Sink>(
+fn put_state_line<E: Engine, K: Sink>(
     out: &mut Outlet<'_, K>,
-    plan: &Plan,
+    plan: &E::Plan,
     state: &SessionState,
     queued: usize,
 )
-    ensures { Writes K.taken K.faults out.old out.new (state_line plan.now state.now queued) }
+    ensures { Writes K.taken K.faults out.old out.new (state_line (E.chart_of plan.now) state.now queued) }
 {
     out.texts(&[state.session.bytes(), b" ", state.chart.bytes(), b" "]);
-    put_phase(out, plan, state, queued);
+    put_phase::<E, K>(out, plan, state, queued);
 }
 
-fn put_session<K: Sink>(out: &mut Outlet<'_, K>, host: &HostState<Compiled>, place: usize)
+fn put_session<E: Engine, K: Sink>(out: &mut Outlet<'_, K>, host: &HostState<E>, place: usize)
     requires within { place < length host.now.image.sessions }
     ensures { (s : SessionImage) → slice_get host.now.image.sessions place ≡ Some s
         → Writes K.taken K.faults out.old out.new (session_text host.now.image s) }
 {
-    put_state_line(out, host.plan(place), host.state(place), host.queued(place));
+    put_state_line::<E, K>(out, host.plan(place), host.state(place), host.queued(place));
 }
 
 /// The sessions, in the order in which they were started.
-pub(crate) fn put_sessions<K: Sink>(out: &mut Outlet<'_, K>, host: &HostState<Compiled>)
+pub(crate) fn put_sessions<E: Engine, K: Sink>(out: &mut Outlet<'_, K>, host: &HostState<E>)
     ensures { Writes K.taken K.faults out.old out.new (flat_map (session_text host.now.image) host.now.image.sessions) }
 {
     for place in 0..host.count() {

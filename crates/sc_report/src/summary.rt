@@ -1,7 +1,7 @@
 ghost use Rattle.std.specs.Prelude.{◌≡◌, ◌++◌, [], false, OnOk, OnErr, codes, decimal, length};
 ghost use Rattle.std.specs.Fmt.{signed_decimal};
 ghost use Rattle.std.specs.Io.KnownBytes.{Appends};
-ghost use Rattle.sc_core.specs.Accepted.{accepted_steps};
+ghost use Rattle.sc_machine.specs.Accepted.{accepted_steps};
 ghost use Rattle.sc_dev.specs.Causes.{HasCause};
 ghost use Rattle.sc_dev.specs.Transfer.{AppendsPart};
 ghost use Rattle.sc_report.specs.Lines.{line};
@@ -14,13 +14,13 @@ use crate::report::put_end;
 use crate::totals::total;
 use sc_core::{Closed, History, HostState};
 use sc_dev::{Failed, Sink};
-use sc_turn::Compiled;
+use sc_law::Engine;
 
 /// Writes the summary of the run of a script that was drawn from a number and has so many drawn commands: the number of
 /// entries, that of the steps that the host accepted, what the script's sessions counted, and the word for how the run
 /// ended. It takes no memory.
-pub fn write_summary<D, K: Sink>(
-    closed: &Closed<Compiled, D>,
+pub fn write_summary<E: Engine, D, K: Sink>(
+    closed: &Closed<E, D>,
     number: u64,
     size: u32,
     end: End,
@@ -37,9 +37,9 @@ pub fn write_summary<D, K: Sink>(
 }
 
 /// Puts a summary, and hands on all of it.
-fn finish_summary<D, K: Sink>(
+fn finish_summary<E: Engine, D, K: Sink>(
     out: &mut Outlet<'_, K>,
-    closed: &Closed<Compiled, D>,
+    closed: &Closed<E, D>,
     number: u64,
     size: u32,
     end: End,
@@ -56,9 +56,9 @@ fn finish_summary<D, K: Sink>(
     out.close()
 }
 
-fn put_summary<D, K: Sink>(
+fn put_summary<E: Engine, D, K: Sink>(
     out: &mut Outlet<'_, K>,
-    closed: &Closed<Compiled, D>,
+    closed: &Closed<E, D>,
     number: u64,
     size: u32,
     end: End,
@@ -81,7 +81,7 @@ fn put_drawn<K: Sink>(out: &mut Outlet<'_, K>, number: u64, size: u32)
     out.end_line();
 }
 
-fn put_counts<K: Sink>(out: &mut Outlet<'_, K>, history: &History, host: &HostState<Compiled>)
+fn put_counts<E: Engine, K: Sink>(out: &mut Outlet<'_, K>, history: &History, host: &HostState<E>)
     ensures { Writes K.taken K.faults out.old out.new (line (codes "entries " ++ decimal (length history.now.entries)
         ++ codes " steps " ++ decimal (accepted_steps history.now.entries)
         ++ codes " sum " ++ signed_decimal (total host.now.image.sessions))) }

@@ -4,11 +4,11 @@ ghost use Rattle.sc_report.specs.Summary.{counted, counted_live, counted_of, int
 
 use sc_base::PlainName;
 use sc_core::HostState;
-use sc_turn::Compiled;
+use sc_law::Engine;
 use sc_types::{Phase, SessionState, Value};
 
 /// What the sessions of a drawn script have counted. A session counts less than 2^63, and there are less than 2^64.
-pub(crate) fn total(host: &HostState<Compiled>) -> i128
+pub(crate) fn total<E: Engine>(host: &HostState<E>) -> i128
     ensures { result ≡ total host.now.image.sessions }
 {
     let mut total = 0;
@@ -18,7 +18,7 @@ pub(crate) fn total(host: &HostState<Compiled>) -> i128
     total
 }
 
-fn counted_of(host: &HostState<Compiled>, place: usize) -> i64
+fn counted_of<E: Engine>(host: &HostState<E>, place: usize) -> i64
     requires within { place < length host.now.image.sessions }
     ensures { (s : SessionImage) → slice_get host.now.image.sessions place ≡ Some s → result ≡ counted_of s }
 {

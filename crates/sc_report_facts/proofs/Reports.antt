@@ -4,8 +4,8 @@ use Rattle.std.proofs.lemmas.List.{append_cancel_left}
 use Rattle.sc_base.specs.Text.{is_digit}
 use Rattle.sc_types.specs.declared.history.Entry.{Entry}
 use Rattle.sc_types.specs.declared.host.HostImage.{HostImage}
-use Rattle.sc_core.specs.Commands.{Answer, answer}
-use Rattle.sc_core.specs.Histories.{Tells, replay}
+use Rattle.sc_machine.specs.Commands.{Answer, answer}
+use Rattle.sc_machine.specs.Histories.{Tells, replay}
 use Rattle.sc_report.specs.declared.end.End.{End}
 use Rattle.sc_report.specs.declared.end.End.TheVariants as end
 use Rattle.sc_report.specs.Entries.{who_text, reply_text, log_text, delivery_text, entries_text}

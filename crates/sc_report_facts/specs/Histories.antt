@@ -11,7 +11,7 @@ use Rattle.sc_types.specs.declared.host.HostImage.{HostImage}
 use Rattle.sc_types.specs.declared.value.Value.{Value}
 use Rattle.sc_types.specs.declared.value.Value.TheFolds.{fold-Value}
 use Rattle.sc_types.specs.declared.value.Value.TheOpen.{Value-F}
-use Rattle.sc_core.specs.Histories.{IsLegal}
+use Rattle.sc_machine.specs.Histories.{IsLegal}
 
 -- What the types of an entry say of its command and of its maker. Here a name is a list of any numbers, and a number
 -- may have any size: a name with a space in it would read as two names, and of a number std writes the last 64 digits.

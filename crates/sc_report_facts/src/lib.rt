@@ -5,7 +5,7 @@
 ghost use Rattle.std.specs.Prelude.{◌≡◌, ℕ, List};
 ghost use Rattle.sc_types.specs.declared.history.Entry.{Entry};
 ghost use Rattle.sc_types.specs.declared.host.HostImage.{HostImage};
-ghost use Rattle.sc_core.specs.Histories.{replay};
+ghost use Rattle.sc_machine.specs.Histories.{replay};
 ghost use Rattle.sc_report.specs.declared.end.End.{End};
 ghost use Rattle.sc_report.specs.Report.{report};
 ghost use Rattle.sc_report_facts.specs.Histories.{IsHistory};

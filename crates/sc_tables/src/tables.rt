@@ -8,6 +8,7 @@ ghost use Rattle.sc_law.specs.Configurations.{children, defaults, parent_of};
 ghost use Rattle.sc_law.specs.Legality.{legal_fault};
 ghost use Rattle.sc_law.specs.Transitions.{source, targets, transition, transition_paths, transitions_of};
 ghost use Rattle.sc_tables.specs.Built.{AreStates, AreTransitions};
+ghost use Rattle.sc_tables.specs.Kept.{AreTables};
 ghost use Rattle.sc_tables.specs.Rows.{below, row_of};
 
 use crate::defaults::defaults;
@@ -63,35 +64,63 @@ pub fn build(alloc: Global, chart: &Arc<Chart>) -> Result<Tables, NoMemory>
     let states = States::new(alloc, chart, elements.slice())?;
     let ids = StateIds::new(alloc, chart, states.paths.slice())?;
     let transitions = Transitions::new(alloc, &ids, elements.slice(), &states)?;
-    joined(alloc, chart, &ids, states, transitions)
+    let rest = remainder_of(alloc, chart, &ids, &states, &transitions)?;
+    Ok(joined(rest, states, transitions))
 }
 
-fn joined(
+/// What tables have beside those of the states and the transitions.
+#[derive(Drop)]
+struct Remainder {
+    chart: Arc<Chart>,
+    count: u32,
+    transition_count: u32,
+    defaults: Sequence<Sequence<u32>>,
+    histories: Sequence<u32>,
+}
+
+/// Takes all the memory that is still needed, so that the tables can be joined without a fault.
+fn remainder_of(
     alloc: Global,
     chart: &Arc<Chart>,
     ids: &StateIds<'_>,
-    states: States,
-    transitions: Transitions,
-) -> Result<Tables, NoMemory>
+    states: &States,
+    transitions: &Transitions,
+) -> Result<Remainder, NoMemory>
     requires legal { legal_fault (arc_value chart.now) ≡ None }
     requires ids { ids.now ≡ arc_value chart.now }
-    requires states { AreStates ids.now states }
-    requires transitions { AreTransitions ids.now transitions }
-    ensures { IfOk result (λ t. t ≡ arc_value chart.now) }
+    requires states { AreStates ids.now states.now }
+    requires transitions { AreTransitions ids.now transitions.now }
+    ensures chart { IfOk result (λ b. arc_value b.chart ≡ arc_value chart.now) }
+    ensures tables { IfOk result (λ b. AreTables (arc_value b.chart) b.count b.transition_count states.now
+        transitions.now b.defaults b.histories) }
 {
     let count = state_number(states.paths.len())?;
     let transition_count = state_number(transitions.paths.len())?;
-    let defaults = defaults(alloc, ids, &states, count)?;
+    let defaults = defaults(alloc, ids, states, count)?;
     let histories = histories(alloc, states.kinds.slice(), count)?;
-    Ok(Tables {
+    Ok(Remainder {
         chart: Arc::try_clone(chart)?,
         count,
         transition_count,
-        states,
-        transitions,
         defaults,
         histories,
     })
+}
+
+fn joined(rest: Remainder, states: States, transitions: Transitions) -> Tables
+    requires { AreTables (arc_value rest.chart) rest.count rest.transition_count states transitions rest.defaults
+        rest.histories }
+    ensures { result ≡ arc_value rest.chart }
+{
+    Tables {
+        chart: rest.chart,
+        count: rest.count,
+        transition_count: rest.transition_count,
+        states,
+        transitions,
+        defaults: rest.defaults,
+        histories: rest.histories,
+    }
 }
 
 impl Tables {

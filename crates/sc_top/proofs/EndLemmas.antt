@@ -9,10 +9,10 @@ use Rattle.sc_book.specs.declared.doubt.Doubt.{Doubt}
 use Rattle.sc_book.specs.declared.fault.CallFault.{CallFault}
 use Rattle.sc_book.specs.declared.fault.CallFault.TheVariants as call
 use Rattle.sc_codec.specs.Bodies.{Spells}
-use Rattle.sc_core.specs.Accepted.{is_accepted}
-use Rattle.sc_core.specs.Commands.{answer}
-use Rattle.sc_core.specs.Cues.{ready}
-use Rattle.sc_core.specs.Histories.{replay}
+use Rattle.sc_machine.specs.Accepted.{is_accepted}
+use Rattle.sc_machine.specs.Commands.{answer}
+use Rattle.sc_machine.specs.Cues.{ready}
+use Rattle.sc_machine.specs.Histories.{replay}
 use Rattle.sc_dev.specs.Disks.{DiskOf}
 use Rattle.sc_journal.specs.Journals.{IsFull}
 use Rattle.sc_pool.specs.Books.{seen_of}

@@ -9,9 +9,9 @@ use Rattle.sc_types.specs.declared.history.Who.{Who}
 use Rattle.sc_types.specs.declared.history.Who.TheVariants.{Client, Worker}
 use Rattle.sc_types.specs.declared.host.HostImage.{HostImage}
 use Rattle.sc_script.specs.declared.script.Script.{Script}
-use Rattle.sc_core.specs.Accepted.{accepted_steps, is_accepted_step}
-use Rattle.sc_core.specs.Commands.{answer}
-use Rattle.sc_core.specs.Cues.{ready}
+use Rattle.sc_machine.specs.Accepted.{accepted_steps, is_accepted_step}
+use Rattle.sc_machine.specs.Commands.{answer}
+use Rattle.sc_machine.specs.Cues.{ready}
 use Rattle.sc_pool.specs.Serving.{Serves, ServesInPart, commands_of, is_of, is_of_later, is_served, is_setup, is_setup_first}
 use Rattle.sc_top.specs.Run.{IsFront, IsRun, Made, next, of_ready, of_script}
 use Rattle.sc_top.proofs.RunLemmas.{entry_enters, entry_of, makes_on, steps_on}

@@ -11,12 +11,12 @@ use Rattle.sc_book.specs.declared.fault.CallFault.{CallFault}
 use Rattle.sc_book.specs.declared.fault.CallFault.TheVariants as call
 use Rattle.sc_book.proofs.BookLemmas.{all_accepted, from_empty, spell_push, stands}
 use Rattle.sc_codec.specs.Bodies.{Spells, body_of}
-use Rattle.sc_core.specs.Accepted.{AreAccepted, accepted_commands, is_accepted}
-use Rattle.sc_core.specs.Commands.{answer}
-use Rattle.sc_core.specs.Cues.{ready}
-use Rattle.sc_core.specs.Histories.{IsLegal, replay}
-use Rattle.sc_core.specs.Hosts.{empty_host}
-use Rattle.sc_core.proofs.AcceptedLemmas.{accepted_more, after_append}
+use Rattle.sc_machine.specs.Accepted.{AreAccepted, accepted_commands, is_accepted}
+use Rattle.sc_machine.specs.Commands.{answer}
+use Rattle.sc_machine.specs.Cues.{ready}
+use Rattle.sc_machine.specs.Histories.{IsLegal, replay}
+use Rattle.sc_machine.specs.Hosts.{empty_host}
+use Rattle.sc_machine.proofs.AcceptedLemmas.{accepted_more, after_append}
 use Rattle.sc_dev.specs.Disks.{DiskOf, Within}
 use Rattle.sc_journal.specs.Journals.{IsFull, StandsAt}
 use Rattle.sc_journal.specs.Texts.{Holds}

@@ -9,17 +9,17 @@ use Rattle.sc_types.specs.declared.history.Entry.{Entry}
 use Rattle.sc_types.specs.declared.host.HostImage.{HostImage}
 use Rattle.sc_script.specs.declared.script.Script.{Script}
 use Rattle.sc_script.specs.Steps.{HasNoStep, IsNoStep}
-use Rattle.sc_core.specs.Commands.{answer}
-use Rattle.sc_core.specs.Cues.{ready}
+use Rattle.sc_machine.specs.Commands.{answer}
+use Rattle.sc_machine.specs.Cues.{ready}
 use Rattle.sc_book.specs.Books.{opening}
-use Rattle.sc_core.specs.Accepted.{accepted_steps, after, is_accepted_step}
-use Rattle.sc_core.specs.Histories.{IsAtMostOnce, IsLegal, replay}
-use Rattle.sc_core.proofs.AcceptedLemmas.{legal_more, legal_parts}
-use Rattle.sc_core.proofs.ChangeLemmas.{change_of}
-use Rattle.sc_core.specs.Hosts.{empty_host}
-use Rattle.sc_core.proofs.GivenLemmas.{given_from}
-use Rattle.sc_core.proofs.NameLemmas.{AreDistinct, distinct_kept}
-use Rattle.sc_core.proofs.Once.{consumed_once}
+use Rattle.sc_machine.specs.Accepted.{accepted_steps, after, is_accepted_step}
+use Rattle.sc_machine.specs.Histories.{IsAtMostOnce, IsLegal, replay}
+use Rattle.sc_machine.proofs.AcceptedLemmas.{legal_more, legal_parts}
+use Rattle.sc_machine.proofs.ChangeLemmas.{change_of}
+use Rattle.sc_machine.specs.Hosts.{empty_host}
+use Rattle.sc_machine.proofs.GivenLemmas.{given_from}
+use Rattle.sc_machine.proofs.NameLemmas.{AreDistinct, distinct_kept}
+use Rattle.sc_machine.proofs.Once.{consumed_once}
 use Rattle.sc_top.specs.Run.{IsFront, IsHistoryOf, IsRun, IsWholeHistoryOf, Made, entries_of, in_turn, of_client, of_clients}
 use Rattle.sc_top.proofs.FrontLemmas.{served_in_part, steps_front}
 use Rattle.sc_top.proofs.RunsLemmas.{First, RunsOn, distinct_after, first_entry, legal_of_run, made, over_ready, stepped}

@@ -11,11 +11,11 @@ use Rattle.sc_book.specs.Books.{BookOf, IsBook}
 use Rattle.sc_book.specs.Receipts.{Doubts, HasNoRoom, IsDoubted, IsUnanswered}
 use Rattle.sc_book.specs.declared.fault.CallFault.{CallFault}
 use Rattle.sc_book.specs.declared.fault.CallFault.TheVariants.{Disk, Full, NoMemory}
-use Rattle.sc_core.specs.Accepted.{accepted_steps, is_accepted}
-use Rattle.sc_core.specs.Commands.{answer}
-use Rattle.sc_core.specs.Cues.{ready}
-use Rattle.sc_core.specs.Histories.{replay}
-use Rattle.sc_core.proofs.AcceptedLemmas.{replay_append}
+use Rattle.sc_machine.specs.Accepted.{accepted_steps, is_accepted}
+use Rattle.sc_machine.specs.Commands.{answer}
+use Rattle.sc_machine.specs.Cues.{ready}
+use Rattle.sc_machine.specs.Histories.{replay}
+use Rattle.sc_machine.proofs.AcceptedLemmas.{replay_append}
 use Rattle.sc_dev.specs.Causes.{Rose}
 use Rattle.sc_dev.specs.Disks.{DiskOf}
 use Rattle.sc_pool.specs.Books.{seen_of}

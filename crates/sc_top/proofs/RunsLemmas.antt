@@ -4,11 +4,11 @@ use Rattle.sc_types.specs.declared.command.Command.TheVariants.{Step}
 use Rattle.sc_types.specs.declared.history.Entry.{Entry}
 use Rattle.sc_types.specs.declared.history.Who.TheVariants.{Client, Worker}
 use Rattle.sc_types.specs.declared.host.HostImage.{HostImage}
-use Rattle.sc_core.specs.Commands.{answer}
-use Rattle.sc_core.specs.Cues.{ready}
-use Rattle.sc_core.specs.Histories.{IsLegal}
-use Rattle.sc_core.proofs.ChangeLemmas.{change_of}
-use Rattle.sc_core.proofs.NameLemmas.{AreDistinct, distinct_kept}
+use Rattle.sc_machine.specs.Commands.{answer}
+use Rattle.sc_machine.specs.Cues.{ready}
+use Rattle.sc_machine.specs.Histories.{IsLegal}
+use Rattle.sc_machine.proofs.ChangeLemmas.{change_of}
+use Rattle.sc_machine.proofs.NameLemmas.{AreDistinct, distinct_kept}
 use Rattle.sc_top.specs.Run.{Continues, Enters, IsRun, Made, next, of_ready, of_script, over}
 
 -- the first entry of a run is a step of the ready session or the next command, and the rest follows

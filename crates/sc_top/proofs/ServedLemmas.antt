@@ -9,10 +9,10 @@ use Rattle.sc_types.specs.declared.history.Who.{Who}
 use Rattle.sc_types.specs.declared.history.Who.TheVariants.{Client, Worker}
 use Rattle.sc_types.specs.declared.host.HostImage.{HostImage}
 use Rattle.sc_script.specs.declared.script.Script.{Script}
-use Rattle.sc_core.specs.Accepted.{is_accepted_step}
-use Rattle.sc_core.specs.Commands.{answer}
-use Rattle.sc_core.specs.Cues.{ready}
-use Rattle.sc_core.proofs.NameLemmas.{AreDistinct, ready_stepped}
+use Rattle.sc_machine.specs.Accepted.{is_accepted_step}
+use Rattle.sc_machine.specs.Commands.{answer}
+use Rattle.sc_machine.specs.Cues.{ready}
+use Rattle.sc_machine.proofs.NameLemmas.{AreDistinct, ready_stepped}
 use Rattle.sc_pool.specs.Serving.{Serves, commands_of, is_later, is_of, is_served, is_setup, is_setup_first, list_of, served_by}
 use Rattle.sc_top.specs.Run.{Enters, IsRun, Made, in_turn, of_client, of_clients}
 use Rattle.sc_top.proofs.RunsLemmas.{First, RunsOn, distinct_after, first_entry, made, over_commands, stepped}

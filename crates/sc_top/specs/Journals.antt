@@ -5,10 +5,10 @@ use Rattle.sc_book.specs.Images.{Spell, StandsFor}
 use Rattle.sc_book.specs.Openings.{HasFirstBad, IsDamagedAt}
 use Rattle.sc_book.specs.Receipts.{most_body}
 use Rattle.sc_codec.specs.Bodies.{body_of}
-use Rattle.sc_core.specs.Accepted.{AreAccepted, accepted_commands}
-use Rattle.sc_core.specs.Commands.{answer}
-use Rattle.sc_core.specs.Histories.{replay}
-use Rattle.sc_core.specs.Hosts.{empty_host}
+use Rattle.sc_machine.specs.Accepted.{AreAccepted, accepted_commands}
+use Rattle.sc_machine.specs.Commands.{answer}
+use Rattle.sc_machine.specs.Histories.{replay}
+use Rattle.sc_machine.specs.Hosts.{empty_host}
 use Rattle.sc_dev.specs.Causes.{Rose}
 use Rattle.sc_dev.specs.Disks.{DiskOf, Within}
 use Rattle.sc_journal.specs.Journals.{IsFull}

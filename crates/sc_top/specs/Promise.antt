@@ -12,7 +12,7 @@ use Rattle.sc_script.specs.Scripts.{Spelled, script_of}
 use Rattle.sc_script.specs.declared.fault.ScriptFault.{ScriptFault}
 use Rattle.sc_script.specs.declared.script.Script.{Script}
 use Rattle.sc_book.specs.Books.{opening}
-use Rattle.sc_core.specs.Cues.{ready}
+use Rattle.sc_machine.specs.Cues.{ready}
 use Rattle.sc_top.specs.Devices.{most_read}
 use Rattle.sc_top.specs.Journals.{Creates, DiskKnown, FailsToOpen, HasNoRoomFor, IsDoubtful, IsStored, IsTight, IsUnwritten, Opening, count_after, host_after}
 use Rattle.sc_report.specs.Lines.{line}

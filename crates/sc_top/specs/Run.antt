@@ -11,11 +11,11 @@ use Rattle.sc_script.specs.declared.script.Script.{Script}
 use Rattle.sc_pool.specs.Pools.{IsNext}
 use Rattle.sc_pool.specs.Serving.{Serves, ServesInPart}
 use Rattle.sc_book.specs.Books.{opening}
-use Rattle.sc_core.specs.Accepted.{accepted_steps, is_accepted}
-use Rattle.sc_core.specs.Commands.{answer}
-use Rattle.sc_core.specs.Cues.{ready}
-use Rattle.sc_core.specs.Histories.{IsLegal, IsAtMostOnce, Tells, replay}
-use Rattle.sc_core.specs.Hosts.{empty_host}
+use Rattle.sc_machine.specs.Accepted.{accepted_steps, is_accepted}
+use Rattle.sc_machine.specs.Commands.{answer}
+use Rattle.sc_machine.specs.Cues.{ready}
+use Rattle.sc_machine.specs.Histories.{IsLegal, IsAtMostOnce, Tells, replay}
+use Rattle.sc_machine.specs.Hosts.{empty_host}
 
 -- a command, and the number of the client that makes it
 abbrev pub Made : Type 0

@@ -12,9 +12,9 @@ use Rattle.sc_book.specs.Receipts.{HasNoRoom}
 use Rattle.sc_book.specs.declared.doubt.Doubt.{Doubt}
 use Rattle.sc_book.specs.declared.fault.CallFault.{CallFault}
 use Rattle.sc_book.specs.declared.fault.CallFault.TheVariants.{Disk, Full, NoMemory}
-use Rattle.sc_core.specs.Accepted.{is_accepted}
-use Rattle.sc_core.specs.Commands.{answer}
-use Rattle.sc_core.specs.Histories.{replay}
+use Rattle.sc_machine.specs.Accepted.{is_accepted}
+use Rattle.sc_machine.specs.Commands.{answer}
+use Rattle.sc_machine.specs.Histories.{replay}
 use Rattle.sc_pool.specs.Books.{seen_of}
 use Rattle.sc_pool.specs.Pools.{Ran}
 use Rattle.sc_script.specs.declared.script.Script.{Script}

@@ -9,7 +9,7 @@ use Rattle.sc_book.specs.declared.fault.CallFault.{CallFault}
 use Rattle.sc_book.specs.declared.fault.CallFault.TheVariants as call
 use Rattle.sc_book.specs.declared.fault.OpenFault.{OpenFault}
 use Rattle.sc_book.specs.declared.fault.OpenFault.TheVariants as unopened
-use Rattle.sc_core.specs.Cues.{ready}
+use Rattle.sc_machine.specs.Cues.{ready}
 use Rattle.sc_report.specs.Lines.{line}
 use Rattle.sc_report.specs.Entries.{fault_text}
 use Rattle.sc_report.specs.Report.{report}

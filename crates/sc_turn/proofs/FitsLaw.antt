@@ -8,7 +8,7 @@ use Rattle.sc_law.specs.Fitting.{Fits, HasCue}
 use Rattle.sc_law.specs.Legality.{legal_fault}
 use Rattle.sc_law.specs.Turn.{TurnResult, turn}
 use Rattle.sc_law.specs.Turned.{TurnedOf}
-use Rattle.sc_fits.proofs.Fitting.{turn-leaves}
+use Rattle.sc_law_theorems.proofs.Fitting.{turn-leaves}
 
 -- what a turn gives fits, where the session goes on
 pub given-fits : (c : Chart) (before : SessionState) (cue : Cue) (r : TurnResult) → legal_fault c ≡ None → Fits c before

@@ -1,8 +1,10 @@
 ghost use Rattle.std.specs.Prelude.{◌≡◌, IfOk, OnOk};
 ghost use Rattle.std.specs.Option.{option_copied};
 ghost use Rattle.std.specs.Arc.{arc_value};
+ghost use Rattle.sc_law.specs.Fitting.{Fits};
 ghost use Rattle.sc_law.specs.Turn.{after, turn, start, finish, settle};
 ghost use Rattle.sc_turn.specs.States.{CanBegin, IsOver, begun, bound_by, state_of};
+ghost use Rattle.sc_types.specs.declared.session.Phase.TheVariants as phase;
 ghost use Rattle.sc_types.specs.declared.session.SessionState.{SessionState as Session};
 
 use crate::beginning::begin;
@@ -29,6 +31,10 @@ impl Engine for Compiled {
 
     fn plan(&self, alloc: Global, chart: &Arc<Chart>) -> Result<Plan, NoMemory> {
         Plan::new(alloc, chart)
+    }
+
+    fn id_of(plan: &Plan, state: u32) -> Option<&[u8]> {
+        plan.id_of(state)
     }
 
     fn give(
@@ -86,7 +92,8 @@ fn turned(
     cue: &Cue,
     given: TurnResult,
 ) -> Result<Turned, NoMemory>
-    requires { given ≡ turn plan.now before.now cue.now }
+    requires turn { given ≡ turn plan.now before.now cue.now }
+    requires fits { given.after.phase ≡ phase.Running → Fits plan.now given.after }
     ensures { IfOk result (λ t. t
         ≡ record { chart = plan.now; before = before.now; cue = cue.now; given = given }) }
 {

@@ -72,7 +72,7 @@ impl Plan {
     }
 
     /// The id that the chart gives a state; none where it gives none, and of a number that is no state's.
-    pub fn id_of(&self, state: u32) -> Option<&[u8]>
+    pub(crate) fn id_of(&self, state: u32) -> Option<&[u8]>
         ensures { option_copied result ≡ option_and_then id_of (node_of self.now state) }
     {
         let _chart = self.tables.chart();

@@ -1,7 +1,7 @@
 use Rattle.std.proofs.Common.{ap, ◌∙◌}
 use Rattle.sc_core.specs.Bodies.{image}
-use Rattle.sc_core.specs.Commands.{answer, cancel, install, post, start, step, tick}
-use Rattle.sc_core.specs.Hosts.{session_named}
+use Rattle.sc_machine.specs.Commands.{answer, cancel, install, post, start, step, tick}
+use Rattle.sc_machine.specs.Hosts.{session_named}
 use Rattle.sc_core.proofs.DraftLemmas.{each_ok}
 use Rattle.sc_core.proofs.NextLemmas.{answer_cancel, answer_install, answer_post, answer_start, answer_step, answer_tick, prepares_as}
 use Rattle.sc_core.proofs.prepare.draft.Goals as goal

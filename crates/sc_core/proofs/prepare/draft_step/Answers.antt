@@ -2,7 +2,7 @@ use Rattle.std.proofs.Common.{Ok, subst}
 use Rattle.sc_core.specs.Bodies.{image}
 use Rattle.sc_core.specs.Preparing.{IsNext}
 use Rattle.sc_core.proofs.DraftLemmas.{each_ok}
-use Rattle.sc_core.proofs.FoundLemmas.{is_at}
+use Rattle.sc_machine.proofs.FoundLemmas.{is_at}
 use Rattle.sc_core.proofs.NextLemmas.{found_fits, step_found}
 use Rattle.sc_core.proofs.RoomLemmas.{on_ok}
 use Rattle.sc_core.proofs.prepare.draft_step.Goals as goal

@@ -2,8 +2,8 @@ use Rattle.std.proofs.Common.{slice_get, subst, ap, ◌∙◌}
 use Rattle.sc_types.specs.declared.host.HostImage.{HostImage}
 use Rattle.sc_law.specs.Turn.{turn}
 use Rattle.sc_core.specs.Bodies.{image}
-use Rattle.sc_core.specs.Commands.{step_turn}
-use Rattle.sc_core.specs.Hosts.{chart_named}
+use Rattle.sc_machine.specs.Commands.{step_turn}
+use Rattle.sc_machine.specs.Hosts.{chart_named}
 use Rattle.sc_core.specs.Preparing.{Prepares}
 use Rattle.sc_core.proofs.DraftLemmas.{each_ok}
 use Rattle.sc_core.proofs.NextLemmas.{step_given, turn_named}

@@ -1,5 +1,5 @@
 use Rattle.std.proofs.Common.{◌≡◌, ◌≤◌, ◌+◌, ◌-◌, ◌^◌, drop, min, sum_by}
-use Rattle.sc_core.specs.Commands.{weight}
+use Rattle.sc_machine.specs.Commands.{weight}
 use Rattle.sc_core.proofs.weights.+weight.Given as goal
 
 abbrev pub invariant-items_weight-loop-item : goal.invariant-items_weight-loop-item

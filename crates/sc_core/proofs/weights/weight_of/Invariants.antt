@@ -1,5 +1,5 @@
 use Rattle.std.proofs.Common.{◌≡◌, ◌≤◌, ◌+◌, ◌-◌, ◌^◌, drop, min, sum_by}
-use Rattle.sc_core.specs.Commands.{pair_weight}
+use Rattle.sc_machine.specs.Commands.{pair_weight}
 use Rattle.sc_core.proofs.weights.weight_of.Given as goal
 
 abbrev pub invariant-loop-pair : goal.invariant-loop-pair

@@ -1,7 +1,7 @@
 use Rattle.std.proofs.Common.{subst}
 use Rattle.sc_law.specs.Fitting.{FitsRun}
 use Rattle.sc_select.specs.Runs.{run_state}
-use Rattle.sc_fits.proofs.Fitting.{microstep-leaves}
+use Rattle.sc_law_theorems.proofs.Fitting.{microstep-leaves}
 use Rattle.sc_micro.proofs.step.microstep.Goals as goal
 
 pub returns-clause-fits : goal.returns-clause-fits

@@ -1,5 +1,5 @@
 use Rattle.std.proofs.Common.{◌≡◌, ◌∙◌, Some, refl, sym, ap, rules}
-use Rattle.sc_core.specs.Cues.{ready}
+use Rattle.sc_machine.specs.Cues.{ready}
 use Rattle.sc_types.specs.declared.command.Command.TheVariants.{Step}
 use Rattle.sc_pool.proofs.BookLemmas.{distinct_in, first_stepped, step_added}
 use Rattle.sc_pool.proofs.book.step_first.Goals as goal

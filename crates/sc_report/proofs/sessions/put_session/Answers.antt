@@ -1,6 +1,5 @@
 use Rattle.std.proofs.Common.{◌≡◌, length, ap, subst, ◌∙◌, rules}
-use Rattle.sc_core.specs.Hosts.{chart_named}
-use Rattle.sc_turn.proofs.Crossing.{plan_given_send, plan_given_sync}
+use Rattle.sc_machine.specs.Hosts.{chart_named}
 use Rattle.sc_types.specs.declared.chart.Chart.{Chart}
 use Rattle.sc_types.specs.declared.session.SessionState.{SessionState}
 use Rattle.sc_report.specs.Outlets.{Puts, seen}
@@ -11,28 +10,10 @@ use Rattle.sc_report.proofs.sessions.put_session.Goals as goal
 pub returns : goal.returns
 returns o c s there =
     let g = c.args.host.now.image in
-    let chart : c.deref.result.now ≡ chart_named g s.state.chart = search (c.plan.ensures s there, rules) in
+    let chart : o.E.Engine.chart_of c.deref.result.now ≡ chart_named g s.state.chart = search (c.plan.ensures s there, rules) in
     let queued : c.queued.result ≡ length s.queued = c.queued.ensures s there in
     let line = ap (λ (x : Chart). state_line x c.state.result.now c.queued.result) chart
     ∙ ap (λ (x : SessionState). state_line (chart_named g s.state.chart) x c.queued.result) (c.state.ensures s there)
     ∙ told_without_internal (chart_named g s.state.chart) s.state c.state.result.now.internal c.queued.result
     ∙ ap (state_line (chart_named g s.state.chart) s.state) queued in
     subst (Puts (seen o.K.Sink.taken o.K.Sink.faults c.args.out.now) (seen o.K.Sink.taken o.K.Sink.faults c.put_state_line.new.out)) line c.put_state_line.ensures
-
-pub plan-requires-send-E-Plan : goal.plan-requires-send-E-Plan
-plan-requires-send-E-Plan g c κs = plan_given_send _
-
-pub plan-requires-sync-E-Plan : goal.plan-requires-sync-E-Plan
-plan-requires-sync-E-Plan g c κs = plan_given_sync _
-
-pub state-requires-send-E-Plan : goal.state-requires-send-E-Plan
-state-requires-send-E-Plan g c κs = plan_given_send _
-
-pub state-requires-sync-E-Plan : goal.state-requires-sync-E-Plan
-state-requires-sync-E-Plan g c κs = plan_given_sync _
-
-pub queued-requires-send-E-Plan : goal.queued-requires-send-E-Plan
-queued-requires-send-E-Plan g c κs = plan_given_send _
-
-pub queued-requires-sync-E-Plan : goal.queued-requires-sync-E-Plan
-queued-requires-sync-E-Plan g c κs = plan_given_sync _

@@ -1,13 +1,6 @@
 use Rattle.std.proofs.Common.{◌<◌, length, rules}
-use Rattle.sc_turn.proofs.Crossing.{plan_given_send, plan_given_sync}
 use Rattle.sc_report.proofs.SessionLemmas.{puts_session}
 use Rattle.sc_report.proofs.sessions.put_sessions.Goals as goal
-
-pub count-place-end-requires-send-E-Plan : goal.count-place-end-requires-send-E-Plan
-count-place-end-requires-send-E-Plan g c κs = plan_given_send _
-
-pub count-place-end-requires-sync-E-Plan : goal.count-place-end-requires-sync-E-Plan
-count-place-end-requires-sync-E-Plan g c κs = plan_given_sync _
 
 pub loop-place-preserved : goal.loop-place-preserved
 loop-place-preserved g c =

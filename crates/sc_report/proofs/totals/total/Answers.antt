@@ -1,14 +1,13 @@
 use Rattle.std.proofs.Common.{◌≡◌, ◌<◌, ◌+◌, drop, length, sym, subst, arith, rules, ℤ, ◌+ℤ◌, FitsSigned, to_z, of_z, w64}
 use Rattle.std.specs.Int.{w128}
 use Rattle.std.proofs.lemmas.Int.{ints}
-use Rattle.sc_turn.proofs.Crossing.{plan_given_send, plan_given_sync}
 use Rattle.sc_report.specs.Summary.{total}
 use Rattle.sc_report.proofs.TotalLemmas.{next_counts, next_total, stays_high, stays_low}
 use Rattle.sc_report.proofs.totals.total.Invariants.{IsWithin}
 use Rattle.sc_report.proofs.totals.total.Goals as goal
 
 pub loop-place-preserved : goal.loop-place-preserved
-loop-place-preserved c =
+loop-place-preserved g c =
     let sessions = c.args.host.now.image.sessions in
     let place = c.loop-place.place in
     let a = to_z w128 c.loop-place.total-bits in
@@ -22,9 +21,3 @@ loop-place-preserved c =
       next_total a n _ _ _ c.loop-place.invariant.0 next,
       (stays_low place a n within.0 fits, stays_high place a n within.1 fits),
     )
-
-pub count-place-end-requires-send-E-Plan : goal.count-place-end-requires-send-E-Plan
-count-place-end-requires-send-E-Plan c κs = plan_given_send _
-
-pub count-place-end-requires-sync-E-Plan : goal.count-place-end-requires-sync-E-Plan
-count-place-end-requires-sync-E-Plan c κs = plan_given_sync _

@@ -8,4 +8,4 @@ abbrev pub IsWithin : ℕ → ℤ → Type 0
 IsWithin n z = (neg_ℤ (pos (n * 9223372036854775808)) ≤ℤ z) × (z ≤ℤ pos (n * 9223372036854775808))
 
 abbrev pub invariant-loop-place : goal.invariant-loop-place
-invariant-loop-place l = ((l.total +ℤ total (drop l.place l.host.image.sessions)) ≡ total l.host.image.sessions) × IsWithin l.place l.total
+invariant-loop-place g l = ((l.total +ℤ total (drop l.place l.host.image.sessions)) ≡ total l.host.image.sessions) × IsWithin l.place l.total

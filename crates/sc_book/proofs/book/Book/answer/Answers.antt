@@ -3,16 +3,16 @@ use Rattle.sc_book.specs.Books.{BookOf, IsBook, first_head}
 use Rattle.sc_book.specs.Confirming.{IsBodyOf}
 use Rattle.sc_book.specs.Keeping.{book_of}
 use Rattle.sc_book.specs.Receipts.{Acknowledges, IsAllOrMore}
-use Rattle.sc_core.specs.Accepted.{is_accepted}
-use Rattle.sc_core.specs.Commands.{answer}
-use Rattle.sc_core.specs.Histories.{Tells}
+use Rattle.sc_machine.specs.Accepted.{is_accepted}
+use Rattle.sc_machine.specs.Commands.{answer}
+use Rattle.sc_machine.specs.Histories.{Tells}
 use Rattle.sc_core.specs.Installing.{installed}
 use Rattle.sc_journal.specs.Stops.{LeavesOnly}
 use Rattle.sc_types.specs.declared.history.Entry.{Entry}
 use Rattle.sc_book.proofs.AnswerLemmas.{not_accepted, not_stored, same_on, stored}
 use Rattle.sc_book.proofs.BodyLemmas.{accepted_fits}
 use Rattle.sc_book.proofs.BookLemmas.{counted, during_none, during_store}
-use Rattle.sc_core.proofs.AcceptedLemmas.{refused_changes_nothing}
+use Rattle.sc_machine.proofs.AcceptedLemmas.{refused_changes_nothing}
 use Rattle.sc_book.proofs.book.Book.answer.Goals as goal
 use Rattle.sc_book.proofs.book.Book.answer.Goals.{then-is_accepted+in_default, else-is_accepted}
 

@@ -4,7 +4,7 @@ use Rattle.std.proofs.lemmas.Option.{same_Some}
 use Rattle.sc_rooms.specs.Rooms.{RoomyOf, place_of}
 use Rattle.sc_types.specs.declared.host.SessionImage.{SessionImage}
 use Rattle.sc_core.specs.Bodies.{marked, session_image}
-use Rattle.sc_core.specs.Cues.{is_ready}
+use Rattle.sc_machine.specs.Cues.{is_ready}
 use Rattle.sc_core.specs.declared.session.Session.{Session}
 use Rattle.sc_core.proofs.SetLemmas.{bear_makes, image_at, newest_at}
 use Rattle.sc_core.proofs.body.Body.bear.Goals as goal

@@ -1,8 +1,8 @@
 use Rattle.std.proofs.Common.{option_map, ap, refl, arith, ◌∙◌}
 use Rattle.sc_types.specs.declared.host.InvokerImage.{InvokerImage}
 use Rattle.sc_core.specs.Bodies.{image, marked}
-use Rattle.sc_core.specs.Deliveries.{cut_off}
-use Rattle.sc_core.specs.Hosts.{with_session}
+use Rattle.sc_machine.specs.Deliveries.{cut_off}
+use Rattle.sc_machine.specs.Hosts.{with_session}
 use Rattle.sc_core.proofs.SetLemmas.{cut_invited, set_session}
 use Rattle.sc_core.proofs.body.Body.cut_off.Goals as goal
 

@@ -1,6 +1,6 @@
 use Rattle.std.proofs.Common.{◌+◌, ◌^◌, ◌<◌, ap, arith, drop, filter, slice_get, sym, ◌∙◌}
 use Rattle.sc_core.specs.Bodies.{image}
-use Rattle.sc_core.specs.Deliveries.{is_due}
+use Rattle.sc_machine.specs.Deliveries.{is_due}
 use Rattle.sc_core.proofs.TickLemmas.{plain_ok, tick_more, tick_ok}
 use Rattle.sc_core.proofs.body.Body.draft_advance.Goals as goal
 

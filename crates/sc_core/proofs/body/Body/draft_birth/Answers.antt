@@ -2,7 +2,7 @@ use Rattle.std.proofs.Common.{◌≡◌, ◌+◌, length, ap, subst, sym, ◌∙
 use Rattle.sc_types.specs.declared.history.Delivery.TheVariants.{Born}
 use Rattle.sc_core.specs.Bodies.{image, session_image}
 use Rattle.sc_core.specs.Changes.{put_state}
-use Rattle.sc_core.specs.Deliveries.{born}
+use Rattle.sc_machine.specs.Deliveries.{born}
 use Rattle.sc_core.specs.Drafts.{Drafts, so_far, stepper}
 use Rattle.sc_core.proofs.DraftLemmas.{put_long, sender_there, sender_within}
 use Rattle.sc_core.proofs.BirthLemmas.{sights_long}

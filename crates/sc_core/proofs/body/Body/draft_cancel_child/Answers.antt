@@ -2,7 +2,7 @@ use Rattle.std.proofs.Common.{◌≡◌, Some, ap, refl, sym, ◌∙◌}
 use Rattle.std.specs.Str.{bytes_eq}
 use Rattle.sc_types.specs.declared.history.Delivery.TheVariants.{Flagged, Nothing}
 use Rattle.sc_core.specs.Bodies.{image}
-use Rattle.sc_core.specs.Deliveries.{cancel_child, left_as, live_child}
+use Rattle.sc_machine.specs.Deliveries.{cancel_child, left_as, live_child}
 use Rattle.sc_core.specs.Drafts.{so_far, stepper}
 use Rattle.sc_core.proofs.DraftLemmas.{drafts_same, found_there, none_drafted, none_there, sender_grown}
 use Rattle.sc_core.proofs.InvokeLemmas.{cut_drafted, no_own_child, other_child, other_place}

@@ -3,7 +3,7 @@ use Rattle.sc_types.specs.declared.command.Reply.TheVariants.{Installed}
 use Rattle.sc_types.specs.declared.host.ChartImage.{ChartImage}
 use Rattle.sc_core.specs.Bodies.{image}
 use Rattle.sc_core.specs.Changes.{with_chart}
-use Rattle.sc_core.specs.Hosts.{chart_place}
+use Rattle.sc_machine.specs.Hosts.{chart_place}
 use Rattle.sc_core.specs.declared.body.InstalledChart.{InstalledChart}
 use Rattle.sc_core.specs.declared.change.Change.TheVariants.{Install}
 use Rattle.sc_core.proofs.PrepareLemmas.{accepts, no_chart}

@@ -1,9 +1,9 @@
 use Rattle.std.proofs.Common.{◌≡◌, ◌++◌, ◌∷◌, [], ◌+◌, ◌-◌, ◌^◌, ◌&&◌, false, true, nat_lt, ap, sym, ◌∙◌}
 use Rattle.sc_types.specs.declared.history.Delivery.TheVariants.{Timed}
 use Rattle.sc_core.specs.Bodies.{image}
-use Rattle.sc_core.specs.Deliveries.{due_time}
+use Rattle.sc_machine.specs.Deliveries.{due_time}
 use Rattle.sc_core.specs.Drafts.{so_far, stepper}
-use Rattle.sc_core.specs.Hosts.{is_live}
+use Rattle.sc_machine.specs.Hosts.{is_live}
 use Rattle.sc_core.specs.declared.change.Change.TheVariants.{Delay}
 use Rattle.sc_core.proofs.DraftLemmas.{delay_drafted, dropped_drafted, next_is, sender_there}
 use Rattle.sc_core.proofs.body.Body.draft_delay.Goals as goal

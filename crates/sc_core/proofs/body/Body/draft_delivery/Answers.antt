@@ -1,8 +1,8 @@
 use Rattle.std.proofs.Common.{ap, ◌∙◌}
 use Rattle.sc_types.specs.declared.effect.Effect.TheVariants.{Send}
-use Rattle.sc_core.specs.Deliveries.{cancel_child, delay_send, deliver_of, hand_to, invoke, live_child, send_now, undo, while_live}
+use Rattle.sc_machine.specs.Deliveries.{cancel_child, delay_send, deliver_of, hand_to, invoke, live_child, send_now, undo, while_live}
 use Rattle.sc_core.specs.Drafts.{so_far, stepper}
-use Rattle.sc_core.specs.Hosts.{session_named}
+use Rattle.sc_machine.specs.Hosts.{session_named}
 use Rattle.sc_core.proofs.DraftLemmas.{drafts_same, each_ok, is_later}
 use Rattle.sc_core.proofs.body.Body.draft_delivery.Goals as goal
 

@@ -1,5 +1,5 @@
 use Rattle.std.proofs.Common.{ap}
-use Rattle.sc_core.specs.Deliveries.{deliver, deliver_of}
+use Rattle.sc_machine.specs.Deliveries.{deliver, deliver_of}
 use Rattle.sc_core.specs.Drafts.{so_far, stepper}
 use Rattle.sc_core.proofs.DraftLemmas.{deliver_is, noted}
 use Rattle.sc_core.proofs.RoomLemmas.{on_ok}

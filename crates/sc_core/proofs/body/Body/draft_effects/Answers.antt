@@ -2,7 +2,7 @@ use Rattle.std.proofs.Common.{◌≡◌, ◌<◌, ◌∷◌, [], ◌+◌, List, 
 use Rattle.std.specs.Vec.Iter.{into_iter_items}
 use Rattle.sc_types.specs.declared.effect.Effect.{Effect}
 use Rattle.sc_core.specs.Bodies.{image, session_image}
-use Rattle.sc_core.specs.Deliveries.{deliver_all}
+use Rattle.sc_machine.specs.Deliveries.{deliver_all}
 use Rattle.sc_core.specs.Drafts.{stepper}
 use Rattle.sc_core.proofs.SetLemmas.{map_long}
 use Rattle.sc_core.proofs.TurnedLemmas.{DraftsOn, no_items, none_left, none_yet, one_on}

@@ -2,7 +2,7 @@ use Rattle.std.proofs.Common.{◌≡◌, ◌+◌, ◌≤◌, length}
 use Rattle.std.specs.Vec.Iter.{into_iter_items, into_iter_len}
 use Rattle.sc_types.specs.declared.host.HostImage.{HostImage}
 use Rattle.sc_core.specs.Bodies.{image}
-use Rattle.sc_core.specs.Deliveries.{deliver_all}
+use Rattle.sc_machine.specs.Deliveries.{deliver_all}
 use Rattle.sc_core.specs.Drafts.{IsBase, stepper}
 use Rattle.sc_core.proofs.TurnedLemmas.{DraftsOn}
 use Rattle.sc_core.proofs.body.Body.draft_effects.Given as goal

@@ -1,7 +1,7 @@
 use Rattle.std.proofs.Common.{ap, ◌∙◌}
 use Rattle.sc_core.specs.Bodies.{image}
 use Rattle.sc_core.specs.Drafts.{so_far}
-use Rattle.sc_core.specs.Hosts.{is_live}
+use Rattle.sc_machine.specs.Hosts.{is_live}
 use Rattle.sc_core.proofs.DraftLemmas.{sender_there}
 use Rattle.sc_core.proofs.EndLemmas.{end_none}
 use Rattle.sc_core.proofs.RoomLemmas.{on_ok}

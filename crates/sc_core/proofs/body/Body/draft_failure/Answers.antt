@@ -3,7 +3,7 @@ use Rattle.sc_types.specs.declared.event.Data.TheVariants.{Absent}
 use Rattle.sc_law.specs.Runs.{platform_event}
 use Rattle.sc_core.specs.Bodies.{image}
 use Rattle.sc_core.specs.Drafts.{stepper}
-use Rattle.sc_core.specs.Hosts.{is_running}
+use Rattle.sc_machine.specs.Hosts.{is_running}
 use Rattle.sc_core.proofs.DraftLemmas.{hears_drafted, sender_there, sender_within, unheard_drafted}
 use Rattle.sc_core.proofs.body.Body.draft_failure.Goals as goal
 

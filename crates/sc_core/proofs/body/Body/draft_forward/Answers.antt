@@ -1,9 +1,9 @@
 use Rattle.std.proofs.Common.{Some, ap, refl}
 use Rattle.sc_types.specs.declared.history.Delivery.TheVariants.{Dropped}
 use Rattle.sc_core.specs.Bodies.{image}
-use Rattle.sc_core.specs.Deliveries.{hand_to, left_as, while_live}
+use Rattle.sc_machine.specs.Deliveries.{hand_to, left_as, while_live}
 use Rattle.sc_core.specs.Drafts.{so_far, stepper}
-use Rattle.sc_core.specs.Hosts.{session_named}
+use Rattle.sc_machine.specs.Hosts.{session_named}
 use Rattle.sc_core.proofs.DraftLemmas.{drafts_same, each_ok, found_there, hand_drafted, none_drafted, none_there, sender_grown}
 use Rattle.sc_core.proofs.body.Body.draft_forward.Goals as goal
 

@@ -1,14 +1,14 @@
 use Rattle.std.proofs.Common.{◌≡◌, ◌&&◌, false, true, not, is_some, length, nat_le, nat_lt, slice_get, sym, ◌∙◌}
 use Rattle.sc_types.specs.declared.limits.TheConstants.{INVOKE_DEPTH_LIMIT}
-use Rattle.sc_core.specs.declared.invocations.TheConstants.{CHILD_NAME_LIMIT}
+use Rattle.sc_machine.specs.declared.limits.TheConstants.{CHILD_NAME_LIMIT}
 use Rattle.sc_core.specs.Bodies.{image}
-use Rattle.sc_core.specs.Deliveries.{born, invoke, may_bear, unborn}
+use Rattle.sc_machine.specs.Deliveries.{born, invoke, may_bear, unborn}
 use Rattle.sc_core.specs.Drafts.{so_far, stepper}
-use Rattle.sc_core.specs.Hosts.{has_chart, session_place}
+use Rattle.sc_machine.specs.Hosts.{has_chart, session_place}
 use Rattle.sc_core.proofs.DraftLemmas.{drafts_same, each_ok, sender_grown, sender_there}
-use Rattle.sc_core.proofs.FitLemmas.{both_hold}
+use Rattle.sc_machine.proofs.FitLemmas.{both_hold}
 use Rattle.sc_core.proofs.InvokeLemmas.{depth_at, invoke_born, invoke_unborn, next_of}
-use Rattle.sc_core.proofs.MoveLemmas.{none_there}
+use Rattle.sc_machine.proofs.MoveLemmas.{none_there}
 use Rattle.sc_core.proofs.body.Body.draft_invoke.Goals as goal
 
 pub draft_birth-requires-clause-new : goal.draft_birth-requires-clause-new

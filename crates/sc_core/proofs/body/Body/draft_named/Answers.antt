@@ -3,7 +3,7 @@ use Rattle.sc_types.specs.declared.history.Delivery.TheVariants.{Dropped, Queued
 use Rattle.sc_core.specs.Aims.{invokeid_for}
 use Rattle.sc_core.specs.Bodies.{image}
 use Rattle.sc_core.specs.Changes.{numbered, with_invokeid}
-use Rattle.sc_core.specs.Deliveries.{arriving, hand_to, left_as, send_named, unreachable}
+use Rattle.sc_machine.specs.Deliveries.{arriving, hand_to, left_as, send_named, unreachable}
 use Rattle.sc_core.specs.Drafts.{so_far, stepper}
 use Rattle.sc_core.specs.declared.change.Change.TheVariants.{Queue}
 use Rattle.sc_core.proofs.AimLemmas.{arrives}

@@ -5,8 +5,8 @@ use Rattle.sc_core.specs.Births.{IsGrown}
 use Rattle.sc_core.specs.Bodies.{children_of, image, inviter}
 use Rattle.sc_core.specs.Changes.{put_state}
 use Rattle.sc_core.specs.Drafts.{so_far}
-use Rattle.sc_core.specs.Endings.{cleared, tell_end, with_children_left}
-use Rattle.sc_core.specs.Hosts.{is_live}
+use Rattle.sc_machine.specs.Endings.{cleared, tell_end, with_children_left}
+use Rattle.sc_machine.specs.Hosts.{is_live}
 use Rattle.sc_core.specs.Parting.{Adds, cut_changes, new_left, old_left}
 use Rattle.sc_core.proofs.DraftLemmas.{sender_grown, sender_there}
 use Rattle.sc_core.proofs.EndLemmas.{body_at, children_are, end_drafted, left_grown, left_of}

@@ -1,6 +1,6 @@
 use Rattle.std.proofs.Common.{Some, ap, refl, sym}
 use Rattle.sc_core.specs.Bodies.{image}
-use Rattle.sc_core.specs.Deliveries.{send_named, send_now, unreachable}
+use Rattle.sc_machine.specs.Deliveries.{send_named, send_now, unreachable}
 use Rattle.sc_core.specs.Drafts.{so_far, stepper}
 use Rattle.sc_core.proofs.DraftLemmas.{drafts_same, each_ok, invoker_of, sender_there}
 use Rattle.sc_core.proofs.body.Body.draft_send.Goals as goal

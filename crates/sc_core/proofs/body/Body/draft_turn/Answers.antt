@@ -9,11 +9,11 @@ use Rattle.sc_types.specs.declared.host.SessionImage.{SessionImage}
 use Rattle.sc_types.specs.declared.session.SessionState.{SessionState}
 use Rattle.sc_law.specs.Turn.{TurnResult}
 use Rattle.sc_core.specs.Bodies.{image, session_image}
-use Rattle.sc_core.specs.Commands.{put_in}
+use Rattle.sc_machine.specs.Commands.{put_in}
 use Rattle.sc_core.specs.Drafts.{IsSender}
 use Rattle.sc_core.specs.HostStates.{ArePlanned}
 use Rattle.sc_core.specs.Installing.{CanApplyAll, IsRoomy, new_rooms}
-use Rattle.sc_core.specs.Hosts.{with_session}
+use Rattle.sc_machine.specs.Hosts.{with_session}
 use Rattle.sc_core.specs.Stepping.{put_changes}
 use Rattle.sc_core.specs.declared.change.Change.TheVariants.{Count}
 use Rattle.sc_core.proofs.DraftLemmas.{some_map}

@@ -1,7 +1,7 @@
 use Rattle.std.proofs.Common.{◌≡◌, ◌++◌, ◌∷◌, [], false, true, ap, sym, ◌∙◌}
 use Rattle.sc_core.specs.Bodies.{image}
 use Rattle.sc_core.specs.Drafts.{stepper}
-use Rattle.sc_core.specs.Hosts.{is_running}
+use Rattle.sc_machine.specs.Hosts.{is_running}
 use Rattle.sc_core.specs.declared.change.Change.TheVariants.{Tell}
 use Rattle.sc_core.proofs.DraftLemmas.{sender_there, sender_within}
 use Rattle.sc_core.proofs.InvokeLemmas.{quiet_drafted, unborn_drafted}

@@ -1,7 +1,7 @@
 use Rattle.std.proofs.Common.{ap, refl, arith, ◌∙◌}
 use Rattle.sc_core.specs.Bodies.{image, marked}
-use Rattle.sc_core.specs.Deliveries.{without_invoke}
-use Rattle.sc_core.specs.Hosts.{with_session}
+use Rattle.sc_machine.specs.Deliveries.{without_invoke}
+use Rattle.sc_machine.specs.Hosts.{with_session}
 use Rattle.sc_core.proofs.SetLemmas.{set_session}
 use Rattle.sc_core.proofs.body.Body.drop_invoke.Goals as goal
 

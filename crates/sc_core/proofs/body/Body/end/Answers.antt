@@ -2,7 +2,7 @@ use Rattle.std.proofs.Common.{filter, not, [], ap, sym, refl, arith, ◌∙◌}
 use Rattle.sc_types.specs.declared.session.SessionState.{SessionState}
 use Rattle.sc_core.specs.Bodies.{image, marked, session_image}
 use Rattle.sc_core.specs.Changes.{clear_in}
-use Rattle.sc_core.specs.Hosts.{with_session}
+use Rattle.sc_machine.specs.Hosts.{with_session}
 use Rattle.sc_types.specs.Sends.{is_of}
 use Rattle.sc_core.proofs.SetLemmas.{clear_is, clear_live, clear_over, ended_at, makes_same, set_session}
 use Rattle.sc_core.proofs.body.Body.end.Goals as goal

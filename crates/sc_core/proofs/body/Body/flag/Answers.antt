@@ -1,6 +1,6 @@
 use Rattle.std.proofs.Common.{true, ap, refl, sym, arith, ◌∙◌}
 use Rattle.sc_core.specs.Bodies.{image, marked, session_image}
-use Rattle.sc_core.specs.Hosts.{with_session}
+use Rattle.sc_machine.specs.Hosts.{with_session}
 use Rattle.sc_core.proofs.SetLemmas.{set_session, stays_marked}
 use Rattle.sc_core.proofs.body.Body.flag.Goals as goal
 

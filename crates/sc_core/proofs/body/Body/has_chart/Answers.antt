@@ -1,6 +1,6 @@
 use Rattle.std.proofs.Common.{is_some, ap, ◌∙◌}
 use Rattle.sc_core.specs.Bodies.{image}
-use Rattle.sc_core.specs.Hosts.{is_chart_named}
+use Rattle.sc_machine.specs.Hosts.{is_chart_named}
 use Rattle.sc_core.proofs.PrepareLemmas.{some_position}
 use Rattle.sc_core.proofs.body.Body.has_chart.Goals as goal
 

@@ -3,9 +3,9 @@ use Rattle.sc_rooms.specs.Rooms.{RoomyOf}
 use Rattle.sc_types.specs.declared.event.Event.{Event}
 use Rattle.sc_core.specs.Bodies.{image, marked, session_image}
 use Rattle.sc_core.specs.Changes.{numbered}
-use Rattle.sc_core.specs.Cues.{cue_in, is_ready}
-use Rattle.sc_core.specs.Deliveries.{queue}
-use Rattle.sc_core.specs.Hosts.{with_session}
+use Rattle.sc_machine.specs.Cues.{cue_in, is_ready}
+use Rattle.sc_machine.specs.Deliveries.{queue}
+use Rattle.sc_machine.specs.Hosts.{with_session}
 use Rattle.sc_core.proofs.BodyLemmas.{cued_on}
 use Rattle.sc_core.proofs.SetLemmas.{set_session, stays_marked}
 use Rattle.sc_core.proofs.body.Body.queue.Goals as goal

@@ -1,7 +1,7 @@
 use Rattle.std.proofs.Common.{◌≡◌, None, ◌∷◌, ◌++◌, [], ap, sym, subst, arith, ◌∙◌}
 use Rattle.sc_rooms.specs.Rooms.{place_of}
 use Rattle.sc_core.specs.Bodies.{marked, session_image}
-use Rattle.sc_core.specs.Cues.{is_ready}
+use Rattle.sc_machine.specs.Cues.{is_ready}
 use Rattle.sc_core.proofs.SetLemmas.{newest_at, start_makes}
 use Rattle.sc_core.proofs.body.Body.start.Goals as goal
 

@@ -2,7 +2,7 @@ use Rattle.std.proofs.Common.{◌∷◌, ◌++◌, [], ap, refl, arith, ◌∙�
 use Rattle.sc_rooms.specs.Rooms.{RoomyOf}
 use Rattle.sc_types.specs.declared.event.Event.{Event}
 use Rattle.sc_core.specs.Bodies.{image, marked, session_image}
-use Rattle.sc_core.specs.Hosts.{with_session}
+use Rattle.sc_machine.specs.Hosts.{with_session}
 use Rattle.sc_core.proofs.SetLemmas.{append_more, set_session}
 use Rattle.sc_core.proofs.body.Body.tell.Goals as goal
 

@@ -1,7 +1,7 @@
 use Rattle.std.proofs.Common.{◌≡◌, ◌++◌, Option, Some, None, ap, subst, sym, ◌∙◌}
 use Rattle.sc_types.specs.declared.host.InvokerImage.{InvokerImage}
 use Rattle.sc_core.specs.Bodies.{image}
-use Rattle.sc_core.specs.Endings.{tell_end}
+use Rattle.sc_machine.specs.Endings.{tell_end}
 use Rattle.sc_core.specs.Parting.{Adds}
 use Rattle.sc_core.proofs.EndLemmas.{end_told, end_untold, invoked_by, tells_none, tells_nothing}
 use Rattle.sc_core.proofs.RoomLemmas.{on_ok}

@@ -1,5 +1,5 @@
 use Rattle.std.proofs.Common.{◌≡◌, ◌+◌, [], ◌∷◌, ◌++◌, ap, arith, refl}
-use Rattle.sc_core.specs.Accepted.{accepted_steps}
+use Rattle.sc_machine.specs.Accepted.{accepted_steps}
 use Rattle.sc_core.specs.Keeping.{entries_of}
 use Rattle.sc_core.proofs.KeptLemmas.{no_step_more, one_step_more}
 use Rattle.sc_core.proofs.history.History.push.Goals as goal

@@ -1,7 +1,7 @@
 use Rattle.std.proofs.Common.{◌≤◌, ◌-◌, ◌^◌, length, subst, sym, arith}
 use Rattle.sc_types.specs.declared.host.HostImage.{HostImage}
 use Rattle.sc_core.specs.Bodies.{image}
-use Rattle.sc_core.specs.Commands.{answer}
+use Rattle.sc_machine.specs.Commands.{answer}
 use Rattle.sc_core.specs.HostStates.{CanMake, HostOf}
 use Rattle.sc_core.specs.Preparing.{Prepares}
 use Rattle.sc_core.proofs.NextLemmas.{prepared_makes}

@@ -2,8 +2,8 @@ use Rattle.std.proofs.Common.{◌≤◌, ◌-◌, ◌^◌, length, subst, sym, a
 use Rattle.sc_types.specs.declared.command.Command.TheVariants.{Step}
 use Rattle.sc_types.specs.declared.host.HostImage.{HostImage}
 use Rattle.sc_core.specs.Bodies.{image}
-use Rattle.sc_core.specs.Commands.{answer, step}
-use Rattle.sc_core.specs.Hosts.{session_named}
+use Rattle.sc_machine.specs.Commands.{answer, step}
+use Rattle.sc_machine.specs.Hosts.{session_named}
 use Rattle.sc_core.specs.HostStates.{CanMake, HostOf}
 use Rattle.sc_core.specs.Preparing.{Prepares}
 use Rattle.sc_core.proofs.NextLemmas.{answer_step, prepared_makes, prepares_as}

@@ -1,5 +1,5 @@
 use Rattle.std.specs.Prelude.{◌-◌, ◌≡◌}
-use Rattle.sc_core.specs.Accepted.{accepted_steps}
+use Rattle.sc_machine.specs.Accepted.{accepted_steps}
 use Rattle.sc_pool.proofs.locked.Locked.finish_steps.Given as goal
 
 abbrev pub invariant-loop : goal.invariant-loop

@@ -1,7 +1,7 @@
 use Rattle.std.proofs.Common.{◌≡◌, ◌∙◌, suc, ◌-◌, Some, refl, sym, ap, arith, rules}
 use Rattle.std.proofs.lemmas.Result.{err_from_is_err_and}
 use Rattle.sc_book.specs.declared.fault.CallFault.TheVariants.{NoMemory}
-use Rattle.sc_core.specs.Cues.{ready}
+use Rattle.sc_machine.specs.Cues.{ready}
 use Rattle.sc_top.specs.Running.{run_of}
 use Rattle.sc_top.proofs.RunLemmas.{goes_by_step, goes_further, goes_nowhere, goes_on_further, goes_on_still, stops_at_once, stops_by_step, stops_further}
 use Rattle.sc_top.proofs.run.Run.step_all.Goals as goal

@@ -1,0 +1,11 @@
+pub mod AcceptedLemmas
+pub mod ChangeLemmas
+pub mod FitLemmas
+pub mod FoundLemmas
+pub mod GivenLemmas
+pub mod LengthLemmas
+pub mod MoveLemmas
+pub mod NameLemmas
+pub mod Once
+pub mod TurnLemmas
+pub mod WaitLemmas

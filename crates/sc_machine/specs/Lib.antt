@@ -1,0 +1,9 @@
+pub mod Accepted
+pub mod Commands
+pub mod Cues
+pub mod Deliveries
+pub mod Endings
+pub mod FittingHosts
+pub mod Histories
+pub mod Hosts
+pub mod Waiting
