@@ -18,6 +18,7 @@ pub struct FileDisk<'a> {
     progress: Progress,
     moment: u64,
     faults: u64,
+    first_fault: Option<io::Error>,
 }
 
 impl<'a> FileDisk<'a> {
@@ -33,7 +34,18 @@ impl<'a> FileDisk<'a> {
             progress,
             moment: 0,
             faults: 0,
+            first_fault: None,
         }
+    }
+
+    /// Why a device call failed, the first of those that did.
+    pub fn first_fault(&self) -> Option<io::Error> {
+        self.first_fault
+    }
+
+    /// Whether a journal was looked for, and there is no file of it.
+    pub fn has_no_journal(&self) -> bool {
+        self.parts.is_missing(Part::Journal)
     }
 
     /// Counts a device call, and its fault.
@@ -45,8 +57,9 @@ impl<'a> FileDisk<'a> {
         self.moment = self.moment.saturating_add(1);
         match answer {
             Ok(value) => Ok(value),
-            Err(_) => {
+            Err(error) => {
                 self.faults = self.faults.saturating_add(1);
+                self.first_fault = self.first_fault.or(Some(error));
                 Err(Failed)
             }
         }
@@ -79,16 +92,18 @@ impl Disk for FileDisk<'_> {
 
     ghost only_now = { λ _ _ _ c. c };
 
+    // A file that is not there has no bytes, and is not made.
     fn read_at(&mut self, part: Part, at: u64, into: &mut [u8]) -> Result<usize, Failed> {
-        let answer = match self.parts.opened(self.rt, part) {
-            Ok(file) => read_full(file, at, into),
+        let answer = match self.parts.to_read(self.rt, part) {
+            Ok(Some(file)) => read_full(file, at, into),
+            Ok(None) => Ok(0),
             Err(error) => Err(error),
         };
         self.counted(answer)
     }
 
     fn write_at(&mut self, part: Part, at: u64, piece: &[u8]) -> Result<(), Failed> {
-        let answer = match self.parts.opened(self.rt, part) {
+        let answer = match self.parts.to_write(self.rt, part) {
             Ok(file) => file.write_all_at(piece, at),
             Err(error) => Err(error),
         };
@@ -96,8 +111,9 @@ impl Disk for FileDisk<'_> {
     }
 
     fn sync(&mut self, part: Part) -> Result<(), Failed> {
-        let answer = match self.parts.opened(self.rt, part) {
-            Ok(file) => file.sync_data(),
+        let answer = match self.parts.to_read(self.rt, part) {
+            Ok(Some(file)) => file.sync_data(),
+            Ok(None) => Ok(()),
             Err(error) => Err(error),
         };
         self.progress.synced(self.rt, part);

@@ -1,8 +1,12 @@
+use crate::file_disk::FileDisk;
+use sc_hints::{chart_hint, journal_hint, run_hint, script_hint, words_hint};
 use sc_top::Status;
-use std::env;
+use sc_types::NoMemory;
+use std::alloc::Global;
 use std::env::VarError;
-use std::io::IsTerminal;
+use std::io::{ErrorKind, IsTerminal};
 use std::process::ExitCode;
+use std::{env, io};
 
 /// The variable of the environment that asks for help, by any value but the empty one.
 const VARIABLE: &str = "REEDSHOVEL_HELP";
@@ -77,18 +81,80 @@ fn is_asked_for(rt: &HostRuntime) -> bool {
     }
 }
 
-/// Ends with the status of a number, and where help is wanted says on standard error what was expected.
-pub(crate) fn ended(rt: &HostRuntime, is_wanted: bool, number: u8) -> ExitCode {
-    if is_wanted {
-        explain(rt, number);
-    }
-    ExitCode::from(number)
+/// What is known of a run of the program that has ended.
+#[derive(Drop)]
+pub(crate) struct Ended<'a, 'r> {
+    pub(crate) words: &'a [String],
+    /// What was read of standard input, where there was memory to keep it.
+    pub(crate) input: Option<&'a [u8]>,
+    /// The first bytes of what was written.
+    pub(crate) output: Option<&'a [u8]>,
+    pub(crate) disk: &'a FileDisk<'r>,
 }
 
-fn explain(rt: &HostRuntime, number: u8) {
+/// Says on standard error what is wrong where the program ends with the status of a number, and what was expected.
+pub(crate) fn explain(rt: &HostRuntime, number: u8, ended: &Ended<'_, '_>) {
+    if let Ok(Some(hint)) = hint(rt.alloc(), status_of(number), ended) {
+        let _ = eprintln!(rt; "charthost: {hint}");
+    }
+    tell_expected(rt, number);
+}
+
+/// Says what was expected.
+pub(crate) fn tell_expected(rt: &HostRuntime, number: u8) {
     for (status, expected, page) in EXPECTED {
         if status.code() == number {
             let _ = eprintln!(rt; "charthost: expected was {expected}; {page} tells more.");
         }
     }
+}
+
+fn status_of(number: u8) -> Status {
+    match EXPECTED.iter().find(|row| row.0.code() == number) {
+        Some(row) => row.0,
+        None => Status::Done,
+    }
+}
+
+/// What is wrong with the very input of this run.
+fn hint(alloc: Global, status: Status, ended: &Ended<'_, '_>) -> Result<Option<String>, NoMemory> {
+    match (status, ended.input) {
+        (Status::OtherWords, _) => Ok(Some(words_hint(alloc, ended.words)?)),
+        (Status::BadScript, Some(input)) => script_hint(alloc, input),
+        (Status::Faulty, Some(input)) => chart_hint(alloc, input),
+        (Status::Done | Status::Budget, Some(input)) => run_hint(alloc, ended.words, input),
+        (Status::DiskFault, _) => disk_hint(alloc, ended.disk.first_fault()),
+        (Status::BadJournal, _) => damage_hint(alloc, ended),
+        (Status::Exists, _) => told(
+            alloc,
+            "scxml.journal is a journal already: charthost run and charthost show work on it",
+        ),
+        _ => Ok(None),
+    }
+}
+
+fn disk_hint(alloc: Global, fault: Option<io::Error>) -> Result<Option<String>, NoMemory> {
+    let Some(fault) = fault else {
+        return Ok(None);
+    };
+    match fault.kind() {
+        ErrorKind::WouldBlock => told(alloc, "another program has the journal, until it ends"),
+        ErrorKind::AlreadyExists => told(alloc, "another program has just made the journal"),
+        _ => Ok(Some(format!(in alloc; "scxml.journal: {fault}")?)),
+    }
+}
+
+fn damage_hint(alloc: Global, ended: &Ended<'_, '_>) -> Result<Option<String>, NoMemory> {
+    if ended.disk.has_no_journal() {
+        return told(
+            alloc,
+            "there is no journal in this folder, no file scxml.journal: charthost init makes one",
+        );
+    }
+    let line = std::str::from_utf8(ended.output.unwrap_or(b"")).unwrap_or("");
+    Ok(Some(journal_hint(alloc, line)?))
+}
+
+fn told(alloc: Global, sentence: &str) -> Result<Option<String>, NoMemory> {
+    Ok(Some(String::from_str(alloc, sentence)?))
 }

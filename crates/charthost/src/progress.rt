@@ -19,7 +19,8 @@ impl Progress {
         }
     }
 
-    /// Counts a sync. Two seconds after the first, and then once a second at most, the count is told.
+    /// Counts a sync. Two seconds after the first, and then once a second at most, the count is told, once there is a
+    /// command to count.
     pub(crate) fn synced(&mut self, rt: &HostRuntime, part: Part) {
         if !self.is_told || part != Part::Journal {
             return;
@@ -30,7 +31,7 @@ impl Progress {
         };
         if self.due.is_none() {
             self.due = now.checked_add(Duration::from_secs(2));
-        } else if self.is_due(now) {
+        } else if self.is_due(now) && self.commands() > 0 {
             self.due = now.checked_add(Duration::from_secs(1));
             let _ = eprintln!(rt; "charthost: {} commands accepted so far", self.commands());
         }

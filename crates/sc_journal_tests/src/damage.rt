@@ -1,4 +1,5 @@
 // Texts that are no journal's, and texts at the limits.
+use crate::cases::{AMPLE, Case, NONE};
 use crate::steps::{Outcome, Step, disk};
 use sc_base::Bytes;
 use sc_dev::Part;
@@ -15,144 +16,110 @@ const TICKED: &[u8] = b"\x01SCXHOST\x00\x00\x00\x01\x00\x00\x00\x00\x00\x00\x00\
 // An empty journal whose first number is 2^48.
 const LAST: &[u8] = b"\x01SCXHOST\x00\x00\x00\x01\x00\x01\x00\x00\x00\x00\x00\x00\x00";
 
-// What is opened of that journal with one byte changed.
-fn changed(alloc: Global, place: u64, byte: u8) -> Outcome {
-    disk(alloc, 100, &[]).last(
-        alloc,
-        &[
-            Step::Write(Part::Journal, 0, TICKED),
-            Step::Write(Part::Journal, place, &[byte]),
-            Step::Open,
+// The first 19 bytes of a journal.
+const CUT: &[u8] = b"\x01SCXHOST\x00\x00\x00\x01\x00\x00\x00\x00\x00\x00\x00";
+
+// Two entries behind an open gate.
+const TWO: &[u8] = b"\x01\x00\x00\x00\x01x\x01\x00\x00\x00\x01x\x00";
+
+pub const DAMAGE: &[Case] = &[
+    Case {
+        name: "a journal with one body has these bytes",
+        room: AMPLE,
+        calls: &[100],
+        failing: NONE,
+        steps: &[
+            (Step::Create, Outcome::Done),
+            (Step::Open, Outcome::Opened(1, 0, 0)),
+            (Step::Append(TICK), Outcome::Done),
+            (Step::Moment, Outcome::Number(11)),
+            (Step::Close, Outcome::Done),
+            (Step::Has(Part::Journal, TICKED), Outcome::Yes),
         ],
-    )
-}
+    },
+    Case {
+        name: "an empty part is damaged",
+        room: AMPLE,
+        calls: &[100],
+        failing: NONE,
+        steps: &[(Step::Open, Outcome::Damaged(0))],
+    },
+    Case {
+        name: "no entry passes the last number",
+        room: AMPLE,
+        calls: &[100],
+        failing: NONE,
+        steps: &[
+            (Step::Write(Part::Journal, 0, LAST), Outcome::Done),
+            (Step::Open, Outcome::Opened(281_474_976_710_656, 0, 0)),
+            (Step::Append(b"x"), Outcome::Done),
+            (Step::Append(b"x"), Outcome::Full),
+        ],
+    },
+    Case {
+        name: "an entry past the last number is damaged",
+        room: AMPLE,
+        calls: &[100],
+        failing: NONE,
+        steps: &[
+            (Step::Write(Part::Journal, 0, LAST), Outcome::Done),
+            (Step::Write(Part::Journal, 20, TWO), Outcome::Done),
+            (Step::Open, Outcome::Damaged(26)),
+        ],
+    },
+    Case {
+        name: "a journal is made where none is",
+        room: AMPLE,
+        calls: &[100],
+        failing: NONE,
+        steps: &[
+            (Step::Write(Part::Journal, 0, CUT), Outcome::Done),
+            (Step::Create, Outcome::Done),
+            (Step::Create, Outcome::Exists),
+            (Step::Open, Outcome::Opened(1, 0, 0)),
+        ],
+    },
+];
 
-#[test]
-fn a_journal_with_one_body_has_these_bytes(rt: HostRuntime) -> Result<(), Fail> {
-    let alloc = rt.alloc();
+// What is opened of a text in which these bytes were written over at a place.
+fn opened<'a>(alloc: Global, text: &'a [u8], place: u64, bytes: &'a [u8]) -> Outcome {
     let steps = [
-        Step::Create,
-        Step::Open,
-        Step::Append(TICK),
-        Step::Moment,
-        Step::Close,
-        Step::Has(Part::Journal, TICKED),
+        (Step::Write(Part::Journal, 0, text), Outcome::Done),
+        (Step::Write(Part::Journal, place, bytes), Outcome::Done),
+        (Step::Open, Outcome::Nothing),
     ];
-    let outcomes = disk(alloc, 100, &[]).after(alloc, &steps)?;
-    let want = [
-        Outcome::Done,
-        Outcome::Opened(1, 0, 0),
-        Outcome::Done,
-        Outcome::Number(11),
-        Outcome::Done,
-        Outcome::Yes,
-    ];
-    assert_eq!(rt; outcomes.slice(), want.as_slice());
-    Ok(())
+    match disk(alloc, AMPLE, 100, &[]).first_other(alloc, &steps) {
+        Some((_, outcome)) => outcome,
+        None => Outcome::Nothing,
+    }
 }
 
+// A byte of the journal that was changed, and what is opened then.
+const CHANGES: [(u64, u8, Outcome); 10] = [
+    (0, 2, Outcome::Damaged(0)),
+    (1, 0, Outcome::Damaged(1)),
+    (11, 7, Outcome::Damaged(8)),
+    (19, 0, Outcome::Damaged(12)),
+    (19, 2, Outcome::Opened(2, 1, 9)),
+    (20, 0, Outcome::Opened(1, 0, 0)),
+    (22, 1, Outcome::Damaged(20)),
+    (24, 0, Outcome::Damaged(20)),
+    (34, 1, Outcome::Damaged(34)),
+    (34, 255, Outcome::Opened(1, 1, 9)),
+];
+
 #[test]
-fn a_short_text_is_damaged(rt: HostRuntime) {
-    let alloc = rt.alloc();
+fn a_text_that_was_cut_or_changed_is_damaged_where_it_was(rt: HostRuntime) {
     for length in 1..35usize {
-        let steps = [
-            Step::Write(Part::Journal, 0, &TICKED[..length.min(TICKED.len())]),
-            Step::Open,
-        ];
+        let text = &TICKED[..length.min(TICKED.len())];
+        let found = opened(rt.alloc(), text, 0, b"\x01");
         let place = if length < 21 { 0 } else { 20 };
-        assert_eq!(rt;
-            disk(alloc, 100, &[]).last(alloc, &steps),
-            Outcome::Damaged(place),
-            "cut to {length}"
-        );
+        assert_eq!(rt; found, Outcome::Damaged(place), "cut to {length}");
     }
-}
-
-#[test]
-fn an_empty_part_is_damaged(rt: HostRuntime) {
-    let alloc = rt.alloc();
-    assert_eq!(rt;
-        disk(alloc, 100, &[]).last(alloc, &[Step::Open]),
-        Outcome::Damaged(0)
-    );
-}
-
-#[test]
-fn a_changed_byte_is_damage_where_it_stands(rt: HostRuntime) {
-    let alloc = rt.alloc();
-    let cases = [
-        (0u64, 2u8, Outcome::Damaged(0)),
-        (1, 0, Outcome::Damaged(1)),
-        (11, 7, Outcome::Damaged(8)),
-        (19, 0, Outcome::Damaged(12)),
-        (19, 2, Outcome::Opened(2, 1, 9)),
-        (20, 0, Outcome::Opened(1, 0, 0)),
-        (22, 1, Outcome::Damaged(20)),
-        (24, 0, Outcome::Damaged(20)),
-        (34, 1, Outcome::Damaged(34)),
-        (34, 255, Outcome::Opened(1, 1, 9)),
-    ];
-    for (place, byte, want) in cases {
-        assert_eq!(rt; changed(alloc, place, byte), want, "byte {place} is {byte}");
+    for (place, byte, wanted) in CHANGES {
+        let found = opened(rt.alloc(), TICKED, place, &[byte]);
+        assert_eq!(rt; found, wanted, "byte {place} is {byte}");
     }
-}
-
-#[test]
-fn no_entry_passes_the_last_number(rt: HostRuntime) -> Result<(), Fail> {
-    let alloc = rt.alloc();
-    let steps = [
-        Step::Write(Part::Journal, 0, LAST),
-        Step::Open,
-        Step::Append(b"x"),
-        Step::Append(b"x"),
-    ];
-    let outcomes = disk(alloc, 100, &[]).after(alloc, &steps)?;
-    let want = [
-        Outcome::Done,
-        Outcome::Opened(281_474_976_710_656, 0, 0),
-        Outcome::Done,
-        Outcome::Full,
-    ];
-    assert_eq!(rt; outcomes.slice(), want.as_slice());
-    Ok(())
-}
-
-#[test]
-fn an_entry_past_the_last_number_is_damaged(rt: HostRuntime) {
-    let alloc = rt.alloc();
-    let steps = [
-        Step::Write(Part::Journal, 0, LAST),
-        Step::Write(
-            Part::Journal,
-            20,
-            b"\x01\x00\x00\x00\x01x\x01\x00\x00\x00\x01x\x00",
-        ),
-        Step::Open,
-    ];
-    assert_eq!(rt;
-        disk(alloc, 100, &[]).last(alloc, &steps),
-        Outcome::Damaged(26)
-    );
-}
-
-#[test]
-fn a_journal_is_made_where_none_is(rt: HostRuntime) -> Result<(), Fail> {
-    let alloc = rt.alloc();
-    let steps = [
-        Step::Write(Part::Journal, 0, &TICKED[..19]),
-        Step::Create,
-        Step::Create,
-        Step::Open,
-    ];
-    let outcomes = disk(alloc, 100, &[]).after(alloc, &steps)?;
-    let want = [
-        Outcome::Done,
-        Outcome::Done,
-        Outcome::Exists,
-        Outcome::Opened(1, 0, 0),
-    ];
-    assert_eq!(rt; outcomes.slice(), want.as_slice());
-    Ok(())
 }
 
 // A journal that takes two pieces to read, of which the second gives fewer bytes than were asked for.
@@ -164,17 +131,15 @@ fn a_long_journal_is_read_in_pieces(rt: HostRuntime) -> Result<(), Fail> {
         body.push(1)?;
     }
     let steps = [
-        Step::Create,
-        Step::Open,
-        Step::Append(body.slice()),
-        Step::Append(TICK),
-        Step::Close,
-        Step::Open,
-        Step::Moment,
+        (Step::Create, Outcome::Done),
+        (Step::Open, Outcome::Opened(1, 0, 0)),
+        (Step::Append(body.slice()), Outcome::Done),
+        (Step::Append(TICK), Outcome::Done),
+        (Step::Close, Outcome::Done),
+        (Step::Open, Outcome::Opened(1, 2, 70_009)),
+        (Step::Moment, Outcome::Number(18)),
     ];
-    let last = disk(alloc, 100, &[]).last(alloc, &steps[..6]);
-    let moment = disk(alloc, 100, &[]).last(alloc, &steps);
-    assert_eq!(rt; last, Outcome::Opened(1, 2, 70_009));
-    assert_eq!(rt; moment, Outcome::Number(18));
+    let found = disk(alloc, AMPLE, 100, &[]).first_other(alloc, &steps);
+    assert_eq!(rt; found, None);
     Ok(())
 }

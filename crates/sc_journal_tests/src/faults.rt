@@ -1,124 +1,94 @@
 // A read, a write or a sync that fails at each device call.
-use crate::steps::{Outcome, Step, disk};
+use crate::cases::{AMPLE, Case, NONE};
+use crate::steps::{Outcome, Step};
 use sc_dev::Part;
-use std::test::Fail;
 
-#[test]
-fn making_a_journal_fails_at_each_call(rt: HostRuntime) {
-    let alloc = rt.alloc();
-    for failing in 1..6u64 {
-        let once = disk(alloc, 100, &[failing]).last(alloc, &[Step::Create]);
-        assert_eq!(rt; once, Outcome::Failed, "call {failing}");
-    }
-}
-
-// The last sync has opened the header already, so that a journal is there.
-#[test]
-fn a_journal_is_made_after_a_fault(rt: HostRuntime) {
-    let alloc = rt.alloc();
-    for failing in 1..6u64 {
-        let again = disk(alloc, 100, &[failing]).last(alloc, &[Step::Create, Step::Create]);
-        let want = if failing < 5 {
-            Outcome::Done
-        } else {
-            Outcome::Exists
-        };
-        assert_eq!(rt; again, want, "call {failing}");
-    }
-}
-
-#[test]
-fn opening_fails_at_each_call(rt: HostRuntime) -> Result<(), Fail> {
-    let alloc = rt.alloc();
-    let steps = [Step::Create, Step::Open, Step::Open, Step::Open];
-    let outcomes = disk(alloc, 100, &[6, 8]).after(alloc, &steps)?;
-    let want = [
-        Outcome::Done,
-        Outcome::Failed,
-        Outcome::Failed,
-        Outcome::Opened(1, 0, 0),
-    ];
-    assert_eq!(rt; outcomes.slice(), want.as_slice());
-    Ok(())
-}
-
-#[test]
-fn adding_fails_at_each_call(rt: HostRuntime) -> Result<(), Fail> {
-    let alloc = rt.alloc();
-    let steps = [
-        Step::Create,
-        Step::Open,
-        Step::Append(b"a"),
-        Step::Append(b"b"),
-    ];
-    for failing in 8..12u64 {
-        let outcomes = disk(alloc, 100, &[failing]).after(alloc, &steps)?;
-        let second = if failing < 10 {
-            Outcome::Done
-        } else {
-            Outcome::InDoubt
-        };
-        let want = [
-            Outcome::Done,
-            Outcome::Opened(1, 0, 0),
-            Outcome::Failed,
-            second,
-        ];
-        assert_eq!(rt; outcomes.slice(), want.as_slice(), "call {failing}");
-    }
-    Ok(())
-}
-
-#[test]
-fn settling_fails_at_each_call(rt: HostRuntime) -> Result<(), Fail> {
-    let alloc = rt.alloc();
-    let steps = [
-        Step::Create,
-        Step::Open,
-        Step::Append(b"a"),
-        Step::Settle,
-        Step::Append(b"b"),
-        Step::Settle,
-        Step::Append(b"b"),
-    ];
-    for failing in 12..14u64 {
-        let outcomes = disk(alloc, 100, &[11, failing]).after(alloc, &steps)?;
-        let want = [
-            Outcome::Failed,
-            Outcome::Failed,
-            Outcome::InDoubt,
-            Outcome::Done,
-            Outcome::Done,
-        ];
-        assert_eq!(rt;
-            &outcomes.slice()[2.min(outcomes.len())..],
-            want.as_slice(),
-            "call {failing}"
-        );
-    }
-    Ok(())
-}
-
-// A write past the room in bytes: 21, 1, 9 and 1 bytes were written, and 17 more end at 47.
-#[test]
-fn a_full_disk_fails(rt: HostRuntime) -> Result<(), Fail> {
-    let alloc = rt.alloc();
-    let steps = [
-        Step::Create,
-        Step::Open,
-        Step::Append(b"fits"),
-        Step::Append(b"does not fit"),
-        Step::Close,
-        Step::Sync(Part::Journal),
-        Step::Open,
-    ];
-    let outcomes = crate::steps::small_disk(alloc, 45, 100, &[]).after(alloc, &steps)?;
-    let want = [
-        Outcome::Failed,
-        Outcome::Done,
-        Outcome::Done,
-        Outcome::Opened(1, 1, 4),
-    ];
-    assert_eq!(rt; &outcomes.slice()[3.min(outcomes.len())..], want.as_slice());
-    Ok(())
-}
+pub const FAULTS: &[Case] = &[
+    Case {
+        name: "making a journal fails, and it is made after that",
+        room: AMPLE,
+        calls: &[100],
+        failing: &[&[1], &[2], &[3], &[4]],
+        steps: &[
+            (Step::Create, Outcome::Failed),
+            (Step::Create, Outcome::Done),
+        ],
+    },
+    Case {
+        name: "the last sync fails, and its header is open already, so that a journal is there",
+        room: AMPLE,
+        calls: &[100],
+        failing: &[&[5]],
+        steps: &[
+            (Step::Create, Outcome::Failed),
+            (Step::Create, Outcome::Exists),
+        ],
+    },
+    Case {
+        name: "opening fails at each call",
+        room: AMPLE,
+        calls: &[100],
+        failing: &[&[6, 8]],
+        steps: &[
+            (Step::Create, Outcome::Done),
+            (Step::Open, Outcome::Failed),
+            (Step::Open, Outcome::Failed),
+            (Step::Open, Outcome::Opened(1, 0, 0)),
+        ],
+    },
+    Case {
+        name: "adding fails before the gate is written",
+        room: AMPLE,
+        calls: &[100],
+        failing: &[&[8], &[9]],
+        steps: &[
+            (Step::Create, Outcome::Done),
+            (Step::Open, Outcome::Opened(1, 0, 0)),
+            (Step::Append(b"a"), Outcome::Failed),
+            (Step::Append(b"b"), Outcome::Done),
+        ],
+    },
+    Case {
+        name: "adding fails as the gate is written or synced",
+        room: AMPLE,
+        calls: &[100],
+        failing: &[&[10], &[11]],
+        steps: &[
+            (Step::Create, Outcome::Done),
+            (Step::Open, Outcome::Opened(1, 0, 0)),
+            (Step::Append(b"a"), Outcome::Failed),
+            (Step::Append(b"b"), Outcome::InDoubt),
+        ],
+    },
+    Case {
+        name: "settling fails at each call",
+        room: AMPLE,
+        calls: &[100],
+        failing: &[&[11, 12], &[11, 13]],
+        steps: &[
+            (Step::Create, Outcome::Done),
+            (Step::Open, Outcome::Opened(1, 0, 0)),
+            (Step::Append(b"a"), Outcome::Failed),
+            (Step::Settle, Outcome::Failed),
+            (Step::Append(b"b"), Outcome::InDoubt),
+            (Step::Settle, Outcome::Done),
+            (Step::Append(b"b"), Outcome::Done),
+        ],
+    },
+    // A write past the room in bytes: 21, 1, 9 and 1 bytes were written, and 17 more end at 47.
+    Case {
+        name: "a full disk fails",
+        room: 45,
+        calls: &[100],
+        failing: NONE,
+        steps: &[
+            (Step::Create, Outcome::Done),
+            (Step::Open, Outcome::Opened(1, 0, 0)),
+            (Step::Append(b"fits"), Outcome::Done),
+            (Step::Append(b"does not fit"), Outcome::Failed),
+            (Step::Close, Outcome::Done),
+            (Step::Sync(Part::Journal), Outcome::Done),
+            (Step::Open, Outcome::Opened(1, 1, 4)),
+        ],
+    },
+];

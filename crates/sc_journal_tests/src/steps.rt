@@ -49,13 +49,9 @@ pub enum State {
     Gone,
 }
 
-/// A new disk with rooms that are ample but for the calls, some of which fail.
-pub fn disk(alloc: Global, calls: u64, failing: &[u64]) -> State {
-    small_disk(alloc, 1 << 20, calls, failing)
-}
-
-/// A new disk with so many bytes of room in each part, and as many for writes.
-pub fn small_disk(alloc: Global, room: u64, calls: u64, failing: &[u64]) -> State {
+/// A new disk with so many bytes of room in each part, and as many for writes, and with room for so many calls, some of
+/// which fail.
+pub fn disk(alloc: Global, room: u64, calls: u64, failing: &[u64]) -> State {
     match MemDisk::new(alloc, room.min(1 << 20), calls, room, failing) {
         Ok(disk) => State::Disk(disk),
         Err(_) => State::Gone,
@@ -63,28 +59,23 @@ pub fn small_disk(alloc: Global, room: u64, calls: u64, failing: &[u64]) -> Stat
 }
 
 impl State {
-    /// What comes of these steps, one after another.
-    pub fn after(self, alloc: Global, steps: &[Step<'_>]) -> Result<Sequence<Outcome>, NoMemory> {
+    /// The first of these steps that comes to something else than what stands beside it: its place, and what it came
+    /// to.
+    pub fn first_other(
+        self,
+        alloc: Global,
+        steps: &[(Step<'_>, Outcome)],
+    ) -> Option<(usize, Outcome)> {
         let mut state = self;
-        let mut outcomes = Sequence::new(alloc);
-        for step in steps {
+        let mut first = None;
+        for (place, (step, wanted)) in steps.iter().enumerate() {
             let (next, outcome) = state.step(alloc, step);
             state = next;
-            outcomes.push(outcome)?;
+            if first.is_none() && outcome != *wanted {
+                first = Some((place, outcome));
+            }
         }
-        Ok(outcomes)
-    }
-
-    /// What comes of the last of these steps.
-    pub fn last(self, alloc: Global, steps: &[Step<'_>]) -> Outcome {
-        let mut state = self;
-        let mut last = Outcome::Nothing;
-        for step in steps {
-            let (next, outcome) = state.step(alloc, step);
-            state = next;
-            last = outcome;
-        }
-        last
+        first
     }
 
     fn step(self, alloc: Global, step: &Step<'_>) -> (State, Outcome) {

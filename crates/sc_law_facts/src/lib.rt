@@ -1,5 +1,6 @@
-//! Facts that the definitions of a turn compute to: whole turns of small charts, and values of expressions. Nothing
-//! stands on this crate; it is there so that a change of the definitions that changes one of these turns is refused.
+//! Worked examples that the definitions of a turn compute to: whole turns of small charts, and values of expressions.
+//! Nothing stands on this crate; it is there so that a change of the definitions that changes one of these turns is
+//! refused.
 #![tactic(auto)]
 
 ghost use Rattle.std.specs.Prelude.{◌≡◌};
@@ -7,70 +8,54 @@ ghost use Rattle.sc_types.specs.declared.chart.Chart.{Chart};
 ghost use Rattle.sc_types.specs.declared.session.Cue.{Cue};
 ghost use Rattle.sc_types.specs.declared.session.SessionState.{SessionState};
 ghost use Rattle.sc_law.specs.Turn.{turn};
-ghost use Rattle.sc_law_facts.specs.Stories.{AreTold, AreValues};
-ghost use Rattle.sc_law_facts.specs.Crafted.{crafted};
-ghost use Rattle.sc_law_facts.specs.RandomFifth.{random_fifth};
-ghost use Rattle.sc_law_facts.specs.RandomFirst.{random_first};
-ghost use Rattle.sc_law_facts.specs.RandomFourth.{random_fourth};
-ghost use Rattle.sc_law_facts.specs.RandomSecond.{random_second};
-ghost use Rattle.sc_law_facts.specs.RandomThird.{random_third};
-ghost use Rattle.sc_law_facts.specs.Worked.{worked};
-ghost use Rattle.sc_law_facts.specs.WorkedContent.{worked_content};
-ghost use Rattle.sc_law_facts.specs.Expressions.{edges, first_values, later_values};
+ghost use Rattle.sc_law_facts.specs.Content.{contents};
+ghost use Rattle.sc_law_facts.specs.EntryAndExit.{entry_and_exit};
+ghost use Rattle.sc_law_facts.specs.Expressions.{sums};
+ghost use Rattle.sc_law_facts.specs.Histories.{histories};
+ghost use Rattle.sc_law_facts.specs.Invocations.{invocations};
+ghost use Rattle.sc_law_facts.specs.Limits.{limits};
+ghost use Rattle.sc_law_facts.specs.Messages.{messages};
+ghost use Rattle.sc_law_facts.specs.Selection.{selection};
+ghost use Rattle.sc_law_facts.specs.Stories.{AreRight, AreSo};
 
-/// Charts that show one rule of selection, entry or exit each.
-pub fn worked_charts()
-    ensures { AreTold worked }
+/// Which transitions a microstep takes.
+pub fn transitions_are_selected()
+    ensures { AreSo selection }
 {}
 
-/// Charts that show one rule of content, data, sends, invokes or the limit each.
-pub fn worked_content_charts()
-    ensures { AreTold worked_content }
+/// What is entered and exited, in which order, and what a final state tells.
+pub fn states_are_entered_and_exited()
+    ensures { AreSo entry_and_exit }
 {}
 
-/// Charts that show where the order of steps is easily got wrong.
-pub fn crafted_charts()
-    ensures { AreTold crafted }
+/// What a history stands for.
+pub fn histories_are_recalled()
+    ensures { AreSo histories }
 {}
 
-/// Random charts.
-pub fn random_first_charts()
-    ensures { AreTold random_first }
+/// Data and executable content.
+pub fn content_is_executed()
+    ensures { AreSo contents }
 {}
 
-/// Random charts.
-pub fn random_second_charts()
-    ensures { AreTold random_second }
+/// What a session sends to others and to itself.
+pub fn messages_are_sent()
+    ensures { AreSo messages }
 {}
 
-/// Random charts.
-pub fn random_third_charts()
-    ensures { AreTold random_third }
+/// Sessions that a state invokes.
+pub fn sessions_are_invoked()
+    ensures { AreSo invocations }
 {}
 
-/// Random charts.
-pub fn random_fourth_charts()
-    ensures { AreTold random_fourth }
+/// The limit on the rounds of a turn.
+pub fn rounds_are_limited()
+    ensures { AreSo limits }
 {}
 
-/// Random charts.
-pub fn random_fifth_charts()
-    ensures { AreTold random_fifth }
-{}
-
-/// The limits of numbers, the order of operands, and the names of the platform.
-pub fn values_at_edges()
-    ensures { AreValues edges }
-{}
-
-/// Random expressions.
-pub fn first_random_values()
-    ensures { AreValues first_values }
-{}
-
-/// More random expressions.
-pub fn later_random_values()
-    ensures { AreValues later_values }
+/// Values of expressions, and their faults.
+pub fn expressions_have_values()
+    ensures { AreRight sums }
 {}
 
 /// A turn leaves a session its name, its chart and what it was started with.

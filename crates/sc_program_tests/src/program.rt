@@ -1,4 +1,6 @@
-use sc_dev::{Gate, MemDisk, MemSink, MemSource, OpenGate, Sink, Source, SureSource};
+//! Calls of the program over devices in memory.
+
+use sc_dev::{Gate, MemDisk, MemSink, MemSource, OpenGate, Sink, Source};
 use sc_top::top;
 use sc_types::NoMemory;
 use std::alloc::Global;
@@ -10,8 +12,8 @@ use std::thread::Threads;
 /// The command line of a run on one thread.
 pub const RUN: &str = "run --workers 0";
 
-/// The most bytes that the journal of a script has whose posts are as heavy as can be.
-const ROOM: u64 = 2_500_000;
+/// The most bytes of a journal.
+const ROOM: u64 = 200_000;
 
 /// Streams in memory: the most bytes that a read or a write takes, at least 1; the numbers of the calls that fail,
 /// counted from 1; and the room for what is written.
@@ -31,6 +33,25 @@ pub const AMPLE: Streams<'static> = Streams {
     most_written: 1000,
     failing_writes: &[],
     room: 200_000,
+};
+
+/// A call of the program: its command line and its input.
+#[derive(Clone, Copy)]
+pub struct Call<'a> {
+    pub line: &'a str,
+    pub input: &'a [u8],
+}
+
+/// The call that makes a journal.
+const INIT: Call<'static> = Call {
+    line: "init",
+    input: b"",
+};
+
+/// The call that tells what the journal holds.
+pub const SHOW: Call<'static> = Call {
+    line: "show",
+    input: b"",
 };
 
 /// What a call of the program came to: its status, and what it wrote.
@@ -55,16 +76,6 @@ impl Outcome {
         }
         count
     }
-
-    /// Whether the call ended with this status, and wrote this.
-    pub fn is(&self, status: u8, written: &str) -> bool {
-        self.status == status && self.written() == written.as_bytes()
-    }
-
-    /// Whether the call ended with this status, and what it wrote with these lines.
-    pub fn ends(&self, status: u8, lines: &str) -> bool {
-        self.status == status && self.written().ends_with(lines.as_bytes())
-    }
 }
 
 /// A disk whose calls of these numbers fail, counted from 1, and on which nothing was made yet.
@@ -79,97 +90,34 @@ pub fn created<R: Threads + Wait + Sync>(
     failing: &[u64],
 ) -> Result<MemDisk, NoMemory> {
     let mut disk = empty(alloc, failing)?;
-    call_on(rt, alloc, "init", b"", &mut disk)?;
+    call_on(rt, alloc, &INIT, &mut disk)?;
     Ok(disk)
 }
 
-/// Calls the program with the words of a command line, over streams that never fail and a journal that was just
-/// created.
-pub fn call<R: Threads + Wait + Sync>(
-    rt: &R,
-    alloc: Global,
-    line: &str,
-    script: &[u8],
-) -> Result<Outcome, NoMemory> {
-    let mut disk = created(rt, alloc, &[])?;
-    call_on(rt, alloc, line, script, &mut disk)
-}
-
-/// What the last comes to of calls one after another on a journal that was just created, each a command line and a
-/// script.
-pub fn last_call<R: Threads + Wait + Sync>(
-    rt: &R,
-    alloc: Global,
-    before: &[(&str, &[u8])],
-    line: &str,
-    script: &[u8],
-) -> Result<Outcome, NoMemory> {
-    let mut disk = created(rt, alloc, &[])?;
-    for (line, script) in before {
-        call_on(rt, alloc, line, script, &mut disk)?;
-    }
-    call_on(rt, alloc, line, script, &mut disk)
-}
-
-/// The same on a disk.
+/// Calls the program over streams that never fail.
 pub fn call_on<R: Threads + Wait + Sync>(
     rt: &R,
     alloc: Global,
-    line: &str,
-    script: &[u8],
+    call: &Call<'_>,
     disk: &mut MemDisk,
 ) -> Result<Outcome, NoMemory> {
-    call_over(rt, alloc, line, script, &AMPLE, disk)
+    call_through(rt, alloc, call, &AMPLE, disk, &OpenGate)
 }
 
-/// The same over streams of any kind.
-pub fn call_over<R: Threads + Wait + Sync>(
-    rt: &R,
-    alloc: Global,
-    line: &str,
-    script: &[u8],
-    streams: &Streams<'_>,
-    disk: &mut MemDisk,
-) -> Result<Outcome, NoMemory> {
-    call_through(rt, alloc, line, script, streams, disk, &OpenGate)
-}
-
-/// The same with a gate that its workers pass.
+/// The same over streams of any kind, with a gate that its workers pass.
 pub fn call_through<R: Threads + Wait + Sync, G: Gate>(
     rt: &R,
     alloc: Global,
-    line: &str,
-    script: &[u8],
+    call: &Call<'_>,
     streams: &Streams<'_>,
     disk: &mut MemDisk,
     gate: &G,
 ) -> Result<Outcome, NoMemory> {
-    let mut source = MemSource::new(
-        alloc,
-        script,
-        streams.most_read.max(1),
-        streams.failing_reads,
-    )?;
-    let mut sink = MemSink::new(
-        alloc,
-        streams.room,
-        streams.most_written.max(1),
-        streams.failing_writes,
-    )?;
-    let status = call_with(rt, alloc, line, &mut source, &mut sink, disk, gate)?;
-    Ok(Outcome { status, sink })
-}
-
-/// Runs a script on one thread over a source that never fails and a journal that was just created.
-pub fn call_surely<R: Threads + Wait + Sync>(
-    rt: &R,
-    alloc: Global,
-    script: &str,
-) -> Result<Outcome, NoMemory> {
-    let mut source = SureSource::new(alloc, script.as_bytes())?;
-    let mut sink = MemSink::new(alloc, AMPLE.room, AMPLE.most_written, &[])?;
-    let mut disk = created(rt, alloc, &[])?;
-    let status = call_with(rt, alloc, RUN, &mut source, &mut sink, &mut disk, &OpenGate)?;
+    let most_read = streams.most_read.max(1);
+    let most_written = streams.most_written.max(1);
+    let mut source = MemSource::new(alloc, call.input, most_read, streams.failing_reads)?;
+    let mut sink = MemSink::new(alloc, streams.room, most_written, streams.failing_writes)?;
+    let status = call_with(rt, alloc, call.line, &mut source, &mut sink, disk, gate)?;
     Ok(Outcome { status, sink })
 }
 
@@ -190,37 +138,18 @@ pub fn call_with<R: Threads + Wait + Sync, S: Source, K: Sink, G: Gate>(
     Ok(top(rt, alloc, words.as_slice(), source, sink, disk, gate))
 }
 
-/// A call of the program: its command line and its script, the status that it ends with, and what it writes.
+/// A call over streams, the status that it ends with, and what it writes.
 #[derive(Clone, Copy)]
 pub struct Case<'a> {
     pub line: &'a str,
-    pub script: &'a str,
+    pub input: &'a str,
+    pub streams: Streams<'a>,
     pub status: u8,
     pub written: &'a str,
 }
 
-/// Makes a call on a journal that was just created.
-pub fn check<R: Abort + Threads + Wait + Sync>(
-    rt: &R,
-    alloc: Global,
-    case: &Case<'_>,
-) -> Result<(), Fail> {
-    check_over(rt, alloc, &AMPLE, case)
-}
-
-/// The same over streams of any kind.
-pub fn check_over<R: Abort + Threads + Wait + Sync>(
-    rt: &R,
-    alloc: Global,
-    streams: &Streams<'_>,
-    case: &Case<'_>,
-) -> Result<(), Fail> {
-    let mut disk = created(rt, alloc, &[])?;
-    check_case(rt, alloc, streams, &mut disk, case)
-}
-
 /// Makes calls one after another on a disk.
-pub fn check_on<R: Abort + Threads + Wait + Sync>(
+pub fn check<R: Abort + Threads + Wait + Sync>(
     rt: &R,
     alloc: Global,
     disk: MemDisk,
@@ -228,7 +157,7 @@ pub fn check_on<R: Abort + Threads + Wait + Sync>(
 ) -> Result<(), Fail> {
     let mut disk = disk;
     for case in cases {
-        check_case(rt, alloc, &AMPLE, &mut disk, case)?;
+        check_case(rt, alloc, &mut disk, case)?;
     }
     Ok(())
 }
@@ -236,13 +165,16 @@ pub fn check_on<R: Abort + Threads + Wait + Sync>(
 fn check_case<R: Abort + Threads + Wait + Sync>(
     rt: &R,
     alloc: Global,
-    streams: &Streams<'_>,
     disk: &mut MemDisk,
     case: &Case<'_>,
 ) -> Result<(), Fail> {
-    let outcome = call_over(rt, alloc, case.line, case.script.as_bytes(), streams, disk)?;
+    let call = Call {
+        line: case.line,
+        input: case.input.as_bytes(),
+    };
+    let outcome = call_through(rt, alloc, &call, &case.streams, disk, &OpenGate)?;
     let found = (outcome.status, outcome.written());
     let wanted = (case.status, case.written.as_bytes());
-    assert_eq!(rt; found, wanted, "{} of {}", case.line, case.script);
+    assert_eq!(rt; found, wanted, "{} of {}", case.line, case.input);
     Ok(())
 }

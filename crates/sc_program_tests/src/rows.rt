@@ -1,18 +1,21 @@
 /// A script, and what `show` writes after so many of its commands, from none on.
-#[derive(Drop)]
+#[derive(Clone, Copy)]
 pub struct Row {
     pub script: &'static str,
     pub shows: &'static [&'static str],
 }
 
+/// A chart that logs on entry, and a session of it.
+pub const ONE_LOG_SCRIPT: &str = concat!(
+    r#"chart m {"tag":"scxml","kids":[{"tag":"state","id":"a","kids":[{"tag":"onentry","kids":[{"tag":"log","expr":"'hi'"}]}]}]}"#,
+    "\n",
+    r#"start s m"#,
+    "\n",
+);
+
 /// A log on entry.
 pub const ONE_LOG: Row = Row {
-    script: concat!(
-        r#"chart m {"tag":"scxml","kids":[{"tag":"state","id":"a","kids":[{"tag":"onentry","kids":[{"tag":"log","expr":"'hi'"}]}]}]}"#,
-        "\n",
-        r#"start s m"#,
-        "\n",
-    ),
+    script: ONE_LOG_SCRIPT,
     shows: &[
         concat!(
             "open 0\n",

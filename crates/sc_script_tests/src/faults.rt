@@ -90,112 +90,53 @@ fn fault_between(
     fault_of(alloc, text.as_slice())
 }
 
-#[test]
-fn the_first_line_is_faulty(rt: HostRuntime) -> Result<(), Fail> {
-    for (line, cause) in LINES {
-        let found = fault_between(rt.alloc(), b"", line, b"\ntick 1\npost s e\n")?;
-        assert_eq!(rt; found, Some(ScriptFault { line: 1, cause }));
-    }
-    Ok(())
-}
-
-#[test]
-fn a_line_in_the_middle_is_faulty(rt: HostRuntime) -> Result<(), Fail> {
-    for (line, cause) in LINES {
-        let before = b"tick 1\r\n\nclient\n";
-        let found = fault_between(rt.alloc(), before, line, b"\n\xff\nwalk\n")?;
-        assert_eq!(rt; found, Some(ScriptFault { line: 4, cause }));
-    }
-    Ok(())
-}
-
-#[test]
-fn the_last_line_is_faulty_with_and_without_its_line_feed(rt: HostRuntime) -> Result<(), Fail> {
-    for (line, cause) in LINES {
-        let before = b"client\npost s e x='a b' y=[1, 2]\n";
-        let want = Some(ScriptFault { line: 3, cause });
-        assert_eq!(rt; fault_between(rt.alloc(), before, line, b"")?, want);
-        assert_eq!(rt; fault_between(rt.alloc(), before, line, b"\n")?, want);
-    }
-    Ok(())
-}
-
-/// What stands behind 64 lines `client`, the line of its fault, and the cause.
-const BEHIND_CLIENTS: [(&[u8], u32, Cause); 4] = [
-    (b"client", 65, Cause::TooManyClients),
-    (b"client\n\xff", 65, Cause::TooManyClients),
-    (b"client x", 65, Cause::Extra),
-    (b"tick 1\n\n  client  \r\n", 67, Cause::TooManyClients),
+/// What stands before a line and behind it, and its number.
+const PLACES: [(&[u8], &[u8], u32); 4] = [
+    (b"", b"\ntick 1\npost s e\n", 1),
+    (b"tick 1\r\n\nclient\n", b"\n\xff\nwalk\n", 4),
+    (b"client\npost s e x='a b' y=[1, 2]\n", b"", 3),
+    (b"client\npost s e x='a b' y=[1, 2]\n", b"\n", 3),
 ];
 
 #[test]
-fn the_65th_client_is_one_too_many(rt: HostRuntime) -> Result<(), Fail> {
-    let mut clients = Vec::new(rt.alloc());
-    for _ in 0..64 {
-        clients.extend_from_slice(b"client\n")?;
-    }
-    assert_eq!(rt; fault_of(rt.alloc(), clients.as_slice())?, None);
-    for (lines, line, cause) in BEHIND_CLIENTS {
-        let found = fault_between(rt.alloc(), clients.as_slice(), lines, b"")?;
-        assert_eq!(rt; found, Some(ScriptFault { line, cause }));
+fn a_faulty_line_is_told_wherever_it_stands(rt: HostRuntime) -> Result<(), Fail> {
+    for (before, behind, number) in PLACES {
+        for (line, cause) in LINES {
+            let found = fault_between(rt.alloc(), before, line, behind)?;
+            let wanted = Some(ScriptFault {
+                line: number,
+                cause,
+            });
+            assert_eq!(rt; found, wanted, "{line:?} as line {number}");
+        }
     }
     Ok(())
 }
 
-/// Texts with blank lines, and their faults.
-const BLANK_LINES: [(&[u8], u32, Cause); 3] = [
-    (b"\nstart s", 2, Cause::Missing),
-    (b"\r\n  \n\nwalk s\n", 4, Cause::UnknownWord),
-    (b"tick 1\n\n\n\n\ntick 01\r\n", 6, Cause::BadNumber),
+/// How often `client` stands before a text, the text, the line of its fault, and the cause.
+const BEHIND_CLIENTS: [(u32, &[u8], u32, Cause); 7] = [
+    (64, b"client", 65, Cause::TooManyClients),
+    (64, b"client\n\xff", 65, Cause::TooManyClients),
+    (64, b"client x", 65, Cause::Extra),
+    (64, b"tick 1\n\n  client  \r\n", 67, Cause::TooManyClients),
+    // Blank lines are counted.
+    (0, b"\nstart s", 2, Cause::Missing),
+    (0, b"\r\n  \n\nwalk s\n", 4, Cause::UnknownWord),
+    (0, b"tick 1\n\n\n\n\ntick 01\r\n", 6, Cause::BadNumber),
 ];
 
 #[test]
-fn blank_lines_are_counted(rt: HostRuntime) -> Result<(), Fail> {
-    for (text, line, cause) in BLANK_LINES {
-        let found = fault_of(rt.alloc(), text)?;
-        assert_eq!(rt; found, Some(ScriptFault { line, cause }));
+fn the_65th_client_is_one_too_many_and_blank_lines_are_counted(
+    rt: HostRuntime,
+) -> Result<(), Fail> {
+    for (clients, text, line, cause) in BEHIND_CLIENTS {
+        let mut before = Vec::new(rt.alloc());
+        for _ in 0..clients {
+            before.extend_from_slice(b"client\n")?;
+        }
+        assert_eq!(rt; fault_of(rt.alloc(), before.as_slice())?, None);
+        let found = fault_between(rt.alloc(), before.as_slice(), text, b"")?;
+        assert_eq!(rt; found, Some(ScriptFault { line, cause }), "{text:?}");
     }
     Ok(())
-}
-
-#[test]
-fn a_text_of_67108865_bytes_is_not_read(rt: HostRuntime) -> Result<(), Fail> {
-    let mut text = Vec::new(rt.alloc());
-    text.push(b'\xff')?;
-    for _ in 0..26 {
-        let half = Vec::from_slice(rt.alloc(), text.as_slice())?;
-        text.extend_from_slice(half.as_slice())?;
-    }
-    let too_large = ScriptFault {
-        line: 0,
-        cause: Cause::TooLarge,
-    };
-    let not_utf8 = ScriptFault {
-        line: 1,
-        cause: Cause::NotUtf8,
-    };
-    assert_eq!(rt; fault_of(rt.alloc(), text.as_slice())?, Some(not_utf8));
-    text.push(b'\n')?;
-    assert_eq!(rt; fault_of(rt.alloc(), text.as_slice())?, Some(too_large));
-    Ok(())
-}
-
-#[test]
-fn causes_are_numbered_from_1_to_9(rt: HostRuntime) {
-    let causes = [
-        Cause::NotUtf8,
-        Cause::UnknownWord,
-        Cause::Missing,
-        Cause::Extra,
-        Cause::BadWord,
-        Cause::BadValue,
-        Cause::BadNumber,
-        Cause::TooManyClients,
-        Cause::TooLarge,
-    ];
-    let mut wanted = 1u8;
-    for cause in causes {
-        assert_eq!(rt; cause.number(), wanted);
-        wanted = wanted.wrapping_add(1);
-    }
 }

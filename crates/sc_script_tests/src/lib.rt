@@ -1,9 +1,7 @@
-//! Tests of scripts: each fault of a line, what lines say, and what is drawn from a number. Tests of the words of a
-//! command line.
+//! Tests of scripts: each fault of a line, whose the lines are, and what is drawn from a number. Tests of the words of
+//! a command line. What lines say, `tests/runs` shows.
 #![tactic(auto)]
 
-#[cfg(test)]
-mod commands;
 #[cfg(test)]
 mod faults;
 #[cfg(test)]

@@ -1,0 +1,33 @@
+use sc_base::NoMemory;
+use sc_words::{Asked, read_words};
+use std::alloc::Global;
+
+const EARLY_TICKS: &str =
+    "all commands of the set-up were made before any step, its ticks too; with --workers 0, or \
+    behind a line client, steps come between them";
+
+/// What surprises in a script that was run with workers: its ticks come before the steps of what it posts, unless a
+/// client makes them.
+pub fn run_hint(
+    alloc: Global,
+    words: &[String],
+    script: &[u8],
+) -> Result<Option<String>, NoMemory> {
+    match read_words(alloc, words)? {
+        Some(Asked::Run { workers, .. }) if workers > 0 && ticks_in_set_up(script) => {
+            Ok(Some(String::from_str(alloc, EARLY_TICKS)?))
+        }
+        _ => Ok(None),
+    }
+}
+
+/// Whether a script has ticks and no clients.
+fn ticks_in_set_up(script: &[u8]) -> bool {
+    begins_a_line(script, b"tick ") && !begins_a_line(script, b"client")
+}
+
+fn begins_a_line(script: &[u8], word: &[u8]) -> bool {
+    script
+        .split(|byte| *byte == b'\n')
+        .any(|line| line.trim_ascii_start().starts_with(word))
+}

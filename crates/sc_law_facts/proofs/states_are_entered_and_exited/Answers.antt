@@ -1,0 +1,7 @@
+use Rattle.std.specs.Prelude.{refl}
+use Rattle.sc_law_facts.proofs.Running.{turning}
+use Rattle.sc_law_facts.proofs.states_are_entered_and_exited.Goals as goal
+
+pub returns : goal.returns
+unfolding turning
+returns c = refl
