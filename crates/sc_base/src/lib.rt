@@ -30,7 +30,7 @@ pub use sequence::Sequence;
 pub use shared::Shared;
 pub use shared_bytes::SharedBytes;
 pub use text::{
-    Name, PLAIN_NAME_LIMIT, PlainName, TEXT_LIMIT, Unfit, Word, is_plain_name, is_text, is_utf8,
-    is_word,
+    LONG_TEXT_LIMIT, Name, PLAIN_NAME_LIMIT, PlainName, TEXT_LIMIT, Unfit, Word, is_plain_name,
+    is_text, is_text_within, is_utf8, is_word,
 };
 pub use writer::TextWriter;

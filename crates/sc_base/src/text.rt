@@ -1,7 +1,7 @@
 ghost use Rattle.std.specs.Prelude.{◌≡◌, ◌↔◌, ◌==◌, ◌||◌, not, IsTrue, IfOk};
 ghost use Rattle.std.specs.List.{list_all};
 ghost use Rattle.std.specs.Str.{IsAscii, IsUtf8, is_utf8};
-ghost use Rattle.sc_base.specs.Text.{is_name_byte, is_letter, is_digit, is_keyword, starts_with_letter, is_plain_name, is_text_byte, is_text, is_name, is_word, IsName, IsWord, IsPlainName};
+ghost use Rattle.sc_base.specs.Text.{is_name_byte, is_letter, is_digit, is_keyword, starts_with_letter, is_plain_name, is_text_byte, is_text_within, is_text, is_name, is_word, IsName, IsWord, IsPlainName};
 
 use crate::memory::NoMemory;
 use crate::plain::Plain;
@@ -9,8 +9,11 @@ use crate::small_bytes::SmallBytes;
 use std::alloc::{AllocError, Global};
 use std::marker::Model;
 
-/// The most bytes of a text of the data model.
+/// The most bytes of a text that names a part of a chart, and of a text of the data model where values are flat.
 pub const TEXT_LIMIT: usize = 4_096;
+
+/// The most bytes of a text of the data model where values may be nested.
+pub const LONG_TEXT_LIMIT: usize = 65_536;
 
 /// The most bytes of a [`PlainName`].
 pub const PLAIN_NAME_LIMIT: usize = 128;
@@ -188,11 +191,18 @@ fn has_text_bytes(text: &[u8]) -> bool
     text.iter().all(|b| is_text_byte(*b))
 }
 
-/// Whether these bytes are what a text of the data model may hold.
+/// Whether these bytes are what a text of the data model may hold, and at most so many.
+pub fn is_text_within(text: &[u8], most: usize) -> bool
+    ensures { result ≡ is_text_within most text.now }
+{
+    text.len() <= most && is_utf8(text) && has_text_bytes(text)
+}
+
+/// The same for at most [`TEXT_LIMIT`] bytes.
 pub fn is_text(text: &[u8]) -> bool
     ensures { result ≡ is_text text.now }
 {
-    text.len() <= TEXT_LIMIT && is_utf8(text) && has_text_bytes(text)
+    is_text_within(text, TEXT_LIMIT)
 }
 
 impl Name {

@@ -5,11 +5,12 @@ use Rattle.sc_book.specs.Confirming.{FitsEntry, has_fitting_values}
 use Rattle.sc_codec.specs.Bodies.{IsEncodable, body_of, pairs_field}
 use Rattle.sc_codec.proofs.Lengths.{length-cancel, length-install, length-post, length-start, length-step, length-tick, pairs_light}
 use Rattle.sc_machine.specs.Accepted.{is_accepted}
-use Rattle.sc_machine.specs.Commands.{answer, weight, weight_of}
+use Rattle.sc_machine.specs.Commands.{answer, weight_of}
+use Rattle.sc_types.specs.Values.{weight}
 use Rattle.sc_machine.specs.Histories.{replay}
 use Rattle.sc_machine.specs.Hosts.{empty_host}
 use Rattle.sc_machine.proofs.LengthLemmas.{AreShort, IsWithinLimits, accepted_within, short_after, short_empty, short_replay}
-use Rattle.sc_core.proofs.WeightLemmas.{weight_list, weight_number, weight_text, weight_truth}
+use Rattle.sc_types.proofs.ValueLemmas.{weight-Bool, weight-Int, weight-List, weight-Text}
 use Rattle.sc_types.specs.declared.command.Command.{Command}
 use Rattle.sc_types.specs.declared.command.Command.TheVariants.{Cancel, Install, Post, Start, Step, Tick}
 use Rattle.sc_types.specs.declared.history.Entry.{Entry}
@@ -19,8 +20,8 @@ use Rattle.sc_types.specs.declared.value.Value.{Value}
 -- the pairs of a post have no more bytes than 2 and what they weigh
 pairs_short : (pairs : List (List ℕ × Value)) → length (pairs_field pairs) ≤ 2 + weight_of pairs
 pairs_short pairs =
-    pairs_light weight (λ b. omega (arith, weight_truth b)) (λ n. omega (arith, weight_number n))
-    (λ text. omega (arith, weight_text text)) (λ items. omega (arith, weight_list items)) pairs
+    pairs_light weight (λ b. omega (arith, weight-Bool b)) (λ n. omega (arith, weight-Int n))
+    (λ text. omega (arith, weight-Text text)) (λ items. omega (arith, weight-List items)) pairs
 
 -- a command within the limits of the host has a body, where its values have
 within_encodable : (c : Command) → IsWithinLimits c → has_fitting_values c ≡ true → IsEncodable c

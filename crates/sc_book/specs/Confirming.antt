@@ -4,7 +4,7 @@ use Rattle.std.specs.List.{list_all}
 use Rattle.sc_book.specs.declared.receipt.Receipt.{Receipt}
 use Rattle.sc_codec.specs.Bodies.{IsEncodable, Spells, body_of}
 use Rattle.sc_core.specs.declared.prepared.Prepared.{Prepared}
-use Rattle.sc_types.specs.Values.{fits}
+use Rattle.sc_types.specs.Values.{fits_flat}
 use Rattle.sc_types.specs.declared.command.Command.{Command}
 use Rattle.sc_types.specs.declared.command.Command.TheVariants.{Post}
 
@@ -17,7 +17,7 @@ pub record Confirms {P : Type 0} (n : ℕ) (p : Prepared P) (r : Receipt) : Type
 
 -- each value in a command is within the limits of values
 abbrev pub has_fitting_values : Command → Bool
-has_fitting_values (Post session event pairs) = list_all (λ p. fits p.1) pairs
+has_fitting_values (Post session event pairs) = list_all (λ p. fits_flat p.1) pairs
 has_fitting_values c = true
 
 -- with such values a command has a body, and an entry of the journal can have it

@@ -6,7 +6,7 @@ ghost use Rattle.sc_machine.specs.Accepted.{is_accepted};
 ghost use Rattle.sc_machine.specs.Commands.{answer};
 ghost use Rattle.sc_core.specs.HostStates.{CanInstall};
 ghost use Rattle.sc_core.specs.Preparing.{Prepares};
-ghost use Rattle.sc_types.specs.Values.{fits};
+ghost use Rattle.sc_types.specs.Values.{fits_flat};
 
 use crate::log::Log;
 use crate::receipt::Receipt;
@@ -18,9 +18,9 @@ use sc_types::{Command, Value};
 use std::alloc::Global;
 
 fn have_fitting_values(pairs: &[(PlainName, Value)]) -> bool
-    ensures { result ≡ list_all (λ p. fits p.1) pairs.now }
+    ensures { result ≡ list_all (λ p. fits_flat p.1) pairs.now }
 {
-    pairs.iter().all(|p| p.1.fits())
+    pairs.iter().all(|p| p.1.fits_flat())
 }
 
 /// Whether each value in a command is within the limits of values.

@@ -10,13 +10,13 @@ use Rattle.sc_codec.proofs.Names.{takes_plain, again_plain}
 use Rattle.sc_codec.proofs.Steps.{takes_both, again_both, takes_counted, again_counted}
 use Rattle.sc_codec.proofs.ValuesAgain.{again_value}
 use Rattle.sc_codec.proofs.ValuesTaken.{takes_value}
-use Rattle.sc_types.specs.Values.{fits}
+use Rattle.sc_types.specs.Values.{fits_flat}
 
 -- a pair with a plain name and a value within the limits
 abbrev pub Named : Pair → Type 0
-Named p = IsPlainName p.0 × (fits p.1 ≡ true)
+Named p = IsPlainName p.0 × (fits_flat p.1 ≡ true)
 
-all_fit : (pairs : List Pair) → AllByRecursion Named pairs → list_all (λ p. fits p.1) pairs ≡ true
+all_fit : (pairs : List Pair) → AllByRecursion Named pairs → list_all (λ p. fits_flat p.1) pairs ≡ true
 all_fit [] a = refl
 all_fit (p ∷ ps) a = and_from _ _ a.0.1 (all_fit ps a.1)
 
@@ -24,10 +24,10 @@ all_named : (pairs : List Pair) → AllByRecursion Named pairs → AllByRecursio
 all_named [] a = tt
 all_named (p ∷ ps) a = (a.0.0, all_named ps a.1)
 
-all_both : (pairs : List Pair) → list_all (λ p. fits p.1) pairs ≡ true → AllByRecursion (λ p. IsPlainName p.0) pairs
+all_both : (pairs : List Pair) → list_all (λ p. fits_flat p.1) pairs ≡ true → AllByRecursion (λ p. IsPlainName p.0) pairs
     → AllByRecursion Named pairs
 all_both [] e a = tt
-all_both (p ∷ ps) e a = let f = and_parts (fits p.1) (list_all (λ q. fits q.1) ps) e in
+all_both (p ∷ ps) e a = let f = and_parts (fits_flat p.1) (list_all (λ q. fits_flat q.1) ps) e in
     ((a.0, f.0), all_both ps f.1 a.1)
 
 pair_takes : (bytes : List ℕ) (p : Pair) (rest : List ℕ) → IsBytes bytes → pair_from bytes ≡ Some (p, rest)

@@ -10,7 +10,7 @@ use Rattle.std.proofs.lemmas.List.Folds.{flat_map-map}
 use Rattle.sc_base.specs.Text.{is_text, is_int}
 use Rattle.sc_codec.specs.Bodies.{value_step, value_field}
 use Rattle.sc_frame.specs.Fields.{number_field, int_field, bytes_field}
-use Rattle.sc_types.specs.Values.{is_item, fits}
+use Rattle.sc_types.specs.Values.{is_flat_item, fits_flat}
 use Rattle.sc_types.specs.declared.value.Value.{Value}
 use Rattle.sc_types.specs.declared.value.Value.TheFolds.{fold-roll-Value}
 use Rattle.sc_types.specs.declared.value.Value.TheOpen.{Value-F}
@@ -44,19 +44,19 @@ list-field items =
 
 pub ruleset fields = (truth-field, int-field, text-field, list-field)
 
--- `is_item`, of a layer
+-- `is_flat_item`, of a layer
 abbrev pub item_fits : Value-F Value → Bool
 item_fits (Value-F.Bool b) = false
 item_fits (Value-F.Int n) = is_int n
 item_fits (Value-F.Text text) = is_text text
 item_fits (Value-F.List items) = false
 
--- `fits`, of a layer
+-- `fits_flat`, of a layer
 abbrev pub value_fits : Value-F Value → Bool
 value_fits (Value-F.Bool b) = true
 value_fits (Value-F.Int n) = is_int n
 value_fits (Value-F.Text text) = is_text text
-value_fits (Value-F.List items) = nat_le (length items) 256 && list_all is_item items
+value_fits (Value-F.List items) = nat_le (length items) 256 && list_all is_flat_item items
 
 -- an integer within the limits has 64 bits
 pub int_fits : (n : ℤ) → is_int n ≡ true → FitsSigned w64 n
@@ -64,7 +64,7 @@ int_fits (pos n) e = let low : n < 2 ^ 63 = ltb-true n (2 ^ 63) e in omega arith
 int_fits (negsuc n) e = let low : n < 2 ^ 63 = ltb-true n (2 ^ 63) e in omega arith
 
 -- an integer within the limits is one as a value
-pub is_int-of_fits : (n : ℤ) → fits (Int n) ≡ true → is_int n ≡ true
+pub is_int-of_fits : (n : ℤ) → fits_flat (Int n) ≡ true → is_int n ≡ true
 is_int-of_fits n e = sym (ap value_fits (outs-Int n)) ∙ e
 
 -- an integer within the limits is the one of its 64 bits

@@ -9,7 +9,7 @@ use Rattle.sc_codec.proofs.Fields.{Again, again_signed, again_sized}
 use Rattle.sc_codec.proofs.Steps.{again_tested, again_counted, counted_field}
 use Rattle.sc_codec.proofs.ValueFields.{truth-field, int-field, text-field, list-field, int_fits, item_fits, value_fits}
 use Rattle.sc_frame.specs.Fields.{int_field, bytes_field}
-use Rattle.sc_types.specs.Values.{is_item, fits}
+use Rattle.sc_types.specs.Values.{is_flat_item, fits_flat}
 use Rattle.sc_types.specs.declared.value.Value.{Value, out-Value}
 use Rattle.sc_types.specs.declared.value.Value.TheOpen.{Value-F}
 use Rattle.sc_types.specs.declared.value.Value.TheVariants.{Bool as Truth, Int, Text, List as Listed, rolls-Bool, rolls-Int, rolls-Text, rolls-List}
@@ -41,27 +41,27 @@ item_layer (Value-F.Text text) rest e =
     ∙ text_again text rest e)
 item_layer (Value-F.List items) rest e = absurd cc
 
-item_again : (v : Value) (rest : List ℕ) → is_item v ≡ true → item_from (value_field v ++ rest) ≡ Some (v, rest)
+item_again : (v : Value) (rest : List ℕ) → is_flat_item v ≡ true → item_from (value_field v ++ rest) ≡ Some (v, rest)
 item_again v rest e =
     let Back : Value → Type 0 = λ w. item_from (value_field w ++ rest) ≡ Some (w, rest) in
     subst Back (roll-out-Value v) (item_layer (out-Value v) rest e)
 
 -- an item of a list is read again
-pub again_item : Again item_from value_field (λ v. is_item v ≡ true)
+pub again_item : Again item_from value_field (λ v. is_flat_item v ≡ true)
 again_item = record { of = item_again }
 
 -- values
 
-each_item : (items : List Value) → list_all is_item items ≡ true → AllByRecursion (λ v. is_item v ≡ true) items
+each_item : (items : List Value) → list_all is_flat_item items ≡ true → AllByRecursion (λ v. is_flat_item v ≡ true) items
 each_item [] e = tt
-each_item (v ∷ vs) e = let p = and_parts (is_item v) (list_all is_item vs) e in (p.0, each_item vs p.1)
+each_item (v ∷ vs) e = let p = and_parts (is_flat_item v) (list_all is_flat_item vs) e in (p.0, each_item vs p.1)
 
 truth_again : (b : Bool) (rest : List ℕ) → shape_from (0 ∷ cond b 1 0 ∷ rest) ≡ Some (Truth b, rest)
 unfolding shape_from truth_from
 truth_again true rest = refl
 truth_again false rest = refl
 
-list_again : (items : List Value) (rest : List ℕ) → length items ≤ 256 → list_all is_item items ≡ true
+list_again : (items : List Value) (rest : List ℕ) → length items ≤ 256 → list_all is_flat_item items ≡ true
     → shape_from (3 ∷ (counted_field value_field items ++ rest)) ≡ Some (Listed items, rest)
 unfolding shape_from list_from
 list_again items rest short e =
@@ -87,17 +87,17 @@ shape_layer (Value-F.List items) rest e =
     subst Back (sym (rolls-List items)) (ap (λ (w : List ℕ). shape_from (w ++ rest)) (list-field items)
     ∙ list_again items rest (leb-true _ _ p.0) p.1)
 
-shape_again : (v : Value) (rest : List ℕ) → fits v ≡ true → shape_from (value_field v ++ rest) ≡ Some (v, rest)
+shape_again : (v : Value) (rest : List ℕ) → fits_flat v ≡ true → shape_from (value_field v ++ rest) ≡ Some (v, rest)
 shape_again v rest e =
     let Back : Value → Type 0 = λ w. shape_from (value_field w ++ rest) ≡ Some (w, rest) in
     subst Back (roll-out-Value v) (shape_layer (out-Value v) rest e)
 
-value_again : (v : Value) (rest : List ℕ) → fits v ≡ true → value_from (value_field v ++ rest) ≡ Some (v, rest)
+value_again : (v : Value) (rest : List ℕ) → fits_flat v ≡ true → value_from (value_field v ++ rest) ≡ Some (v, rest)
 unfolding value_from
 value_again v rest e =
-    let shape : Again shape_from value_field (λ w. fits w ≡ true) = record { of = shape_again } in
-    (again_tested fits shape_from value_field shape).of v rest (e, e)
+    let shape : Again shape_from value_field (λ w. fits_flat w ≡ true) = record { of = shape_again } in
+    (again_tested fits_flat shape_from value_field shape).of v rest (e, e)
 
 -- a value is read again
-pub again_value : Again value_from value_field (λ v. fits v ≡ true)
+pub again_value : Again value_from value_field (λ v. fits_flat v ≡ true)
 again_value = record { of = value_again }

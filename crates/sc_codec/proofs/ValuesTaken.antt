@@ -8,7 +8,7 @@ use Rattle.sc_codec.proofs.Fields.{IsBytes, IsBytes-behind, Taken, Takes, made_s
 use Rattle.sc_codec.proofs.Steps.{takes_tested, takes_counted, counted_field}
 use Rattle.sc_codec.proofs.ValueFields.{truth-field, int-field, text-field, list-field}
 use Rattle.sc_frame.specs.Fields.{int_field}
-use Rattle.sc_types.specs.Values.{fits}
+use Rattle.sc_types.specs.Values.{fits_flat}
 use Rattle.sc_types.specs.declared.value.Value.{Value}
 use Rattle.sc_types.specs.declared.value.Value.TheVariants.{Bool as Truth, Int, Text, List as Listed}
 
@@ -116,12 +116,12 @@ shape_takes (kind ∷ bytes) v rest h e =
     )
 
 value_takes : (bytes : List ℕ) (v : Value) (rest : List ℕ) → IsBytes bytes → value_from bytes ≡ Some (v, rest)
-    → Taken bytes (value_field v) rest × (fits v ≡ true)
+    → Taken bytes (value_field v) rest × (fits_flat v ≡ true)
 unfolding value_from
 value_takes bytes v rest h e =
     let shape : Takes shape_from value_field (λ w. Unit {0}) = record { of = shape_takes } in
-    let t = (takes_tested fits shape_from value_field shape).of bytes v rest h e in (t.0, t.1.1)
+    let t = (takes_tested fits_flat shape_from value_field shape).of bytes v rest h e in (t.0, t.1.1)
 
 -- what is taken as a value
-pub takes_value : Takes value_from value_field (λ v. fits v ≡ true)
+pub takes_value : Takes value_from value_field (λ v. fits_flat v ≡ true)
 takes_value = record { of = value_takes }

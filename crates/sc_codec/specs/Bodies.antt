@@ -4,7 +4,7 @@ use Rattle.std.specs.Prelude.{◌≡◌, ℕ, ◌<◌, ◌^◌, if◌then◌else
 use Rattle.std.specs.List.{flat_map, list_all, AllByRecursion}
 use Rattle.sc_base.specs.Text.{IsWord, IsPlainName}
 use Rattle.sc_frame.specs.Fields.{number_field, int_field, bytes_field}
-use Rattle.sc_types.specs.Values.{fits}
+use Rattle.sc_types.specs.Values.{fits_flat}
 use Rattle.sc_types.specs.declared.command.Command.{Command}
 use Rattle.sc_types.specs.declared.command.Command.TheVariants.{Install, Start, Post, Tick, Cancel, Step}
 use Rattle.sc_types.specs.declared.value.Value.{Value}
@@ -52,7 +52,7 @@ IsShort name = length name < 2 ^ 16
 -- pairs whose count has 2 bytes, and whose values are within the limits of values
 pub record HasFittingPairs (pairs : List Pair) : Type 0 where
   pub count : length pairs < 2 ^ 16
-  pub values : IsTrue (list_all (λ p. fits p.1) pairs)
+  pub values : IsTrue (list_all (λ p. fits_flat p.1) pairs)
 
 -- each part of the command has room in its field
 abbrev pub IsEncodable : Command → Type 0

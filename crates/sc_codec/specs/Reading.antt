@@ -6,7 +6,7 @@ use Rattle.sc_codec.specs.Bodies.{Pair}
 use Rattle.sc_codec.specs.declared.fault.CodecFault.{CodecFault}
 use Rattle.sc_codec.specs.declared.fault.CodecFault.TheVariants as faults
 use Rattle.sc_frame.specs.Fields.{number_at, int_at}
-use Rattle.sc_types.specs.Values.{fits}
+use Rattle.sc_types.specs.Values.{fits_flat}
 use Rattle.sc_types.specs.declared.command.Command.{Command}
 use Rattle.sc_types.specs.declared.command.Command.TheVariants.{Install, Start, Post, Tick, Cancel, Step}
 use Rattle.sc_types.specs.declared.value.Value.{Value}
@@ -120,7 +120,7 @@ shape_from (kind ∷ rest) =
 unfoldable pub value_from : Reader Value
 value_from bytes = do
   value ← shape_from bytes
-  if fits value.0 then Some value else None
+  if fits_flat value.0 then Some value else None
 
 unfoldable pub pair_from : Reader Pair
 pair_from bytes = both plain_name_from value_from bytes

@@ -1,7 +1,7 @@
 ghost use Rattle.std.specs.Prelude.{◌↔◌, ◌≡◌, ◌<◌, ◌^◌, length, IsTrue};
 ghost use Rattle.std.specs.List.{list_all};
 ghost use Rattle.sc_codec.specs.Bodies.{IsShort, HasFittingPairs, IsEncodable};
-ghost use Rattle.sc_types.specs.Values.{fits};
+ghost use Rattle.sc_types.specs.Values.{fits_flat};
 
 use sc_base::{PlainName, Word};
 use sc_types::{Command, Value};
@@ -37,7 +37,7 @@ fn has_fitting_pairs(pairs: &[(PlainName, Value)]) -> bool
 }
 
 fn have_fitting_values(pairs: &[(PlainName, Value)]) -> bool
-    ensures { result ≡ list_all (λ p. fits p.1) pairs.now }
+    ensures { result ≡ list_all (λ p. fits_flat p.1) pairs.now }
 {
-    pairs.iter().all(|p| p.1.fits())
+    pairs.iter().all(|p| p.1.fits_flat())
 }

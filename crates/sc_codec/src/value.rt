@@ -5,7 +5,7 @@ ghost use Rattle.std.specs.List.{list_all};
 ghost use Rattle.sc_codec.specs.Bodies.{value_field};
 ghost use Rattle.sc_codec.specs.Reading.{Gives, many_from, truth_from, int_from, text_from, counted_from, item_of_kind, item_from, list_from, shape_from, value_from};
 ghost use Rattle.sc_frame.specs.Fields.{number_field};
-ghost use Rattle.sc_types.specs.Values.{fits, is_item};
+ghost use Rattle.sc_types.specs.Values.{fits_flat, is_flat_item};
 ghost use Rattle.sc_types.specs.declared.value.Value.{Value};
 
 use crate::fault::CodecFault;
@@ -18,7 +18,7 @@ use std::alloc::Global;
 #[cycle(put)]
 #[tactic(auto, using(crate::proofs::ValueFields::fields))]
 pub(crate) fn put_value(out: &mut Vec<u8>, value: &Value) -> Result<(), NoMemory>
-    requires { IsTrue (fits value.now) }
+    requires { IsTrue (fits_flat value.now) }
     ensures { OnOk result (out.new.items ≡ out.old.items ++ value_field value.now) }
 {
     match value {
@@ -43,7 +43,7 @@ pub(crate) fn put_value(out: &mut Vec<u8>, value: &Value) -> Result<(), NoMemory
 #[cycle(put)]
 fn put_items(out: &mut Vec<u8>, items: &[Value]) -> Result<(), NoMemory>
     requires count { length items.now < 2 ^ 16 }
-    requires items { IsTrue (list_all is_item items.now) }
+    requires items { IsTrue (list_all is_flat_item items.now) }
     ensures { OnOk result (out.new.items
         ≡ out.old.items ++ (number_field 2 (length items.now) ++ flat_map value_field items.now)) }
 {
@@ -59,7 +59,7 @@ pub(crate) fn value_from(alloc: Global, bytes: &[u8]) -> Result<(Value, &[u8]), 
     ensures { Gives (λ x. (x.0, x.1.now)) result (value_from bytes.now) }
 {
     let (value, rest) = shape_from(alloc, bytes)?;
-    if !value.fits() {
+    if !value.fits_flat() {
         return Err(CodecFault::NotCommand);
     }
     Ok((value, rest))

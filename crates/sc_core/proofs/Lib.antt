@@ -27,4 +27,3 @@ pub mod SoundLemmas
 pub mod StaysLemmas
 pub mod TickLemmas
 pub mod TurnedLemmas
-pub mod WeightLemmas

@@ -1,6 +1,6 @@
-ghost use Rattle.std.specs.Prelude.{◌≡◌, ◌+◌, ◌-◌, ◌^◌, min, nat_lt, length, sum_by};
+ghost use Rattle.std.specs.Prelude.{◌≡◌, ◌-◌, ◌^◌, min, nat_lt};
 ghost use Rattle.sc_types.specs.declared.limits.TheConstants.{POST_WEIGHT_LIMIT};
-ghost use Rattle.sc_machine.specs.Commands.{pair_weight, weight, weight_of};
+ghost use Rattle.sc_machine.specs.Commands.{pair_weight, weight_of};
 
 use sc_base::PlainName;
 use sc_types::{POST_WEIGHT_LIMIT, PairList, Value};
@@ -28,29 +28,5 @@ fn pair_weight(pair: &(PlainName, Value)) -> u64
 {
     (pair.0.bytes().len() as u64)
         .saturating_add(4)
-        .saturating_add(value_weight(&pair.1))
-}
-
-#[cycle(weight)]
-#[tactic(auto, using(crate::proofs::WeightLemmas::weights))]
-fn value_weight(value: &Value) -> u64
-    ensures { result ≡ min (weight value.now) (2 ^ 64 - 1) }
-{
-    match value {
-        Value::Bool(_) => 16,
-        Value::Int(_) => 16,
-        Value::Text(text) => (text.len() as u64).saturating_add(16),
-        Value::List(items) => items_weight(items.slice()).saturating_add(16),
-    }
-}
-
-#[cycle(weight)]
-fn items_weight(items: &[Value]) -> u64
-    ensures { result ≡ min (sum_by weight items.now) (2 ^ 64 - 1) }
-{
-    let mut total = 0u64;
-    for item in items {
-        total = total.saturating_add(value_weight(item));
-    }
-    total
+        .saturating_add(pair.1.weight())
 }

@@ -28,7 +28,7 @@ unfolding value
 row_values end_of-Expr = refl
 row_values (more_of-Expr e rest) = ap (λ (vs : List (Env → Evaluated)). value e ∷ vs) (row_values rest)
 
-pub value-List : (es : List Expr) (env : Env) → value (expr.List es) env ≡ on_found listed (all_of env (map value es))
+pub value-List : (es : List Expr) (env : Env) → value (expr.List es) env ≡ on_found (listed env.profile) (all_of env (map value es))
 unfolding value
 value-List es env = search (rules, the_lemmas, row_values)
 

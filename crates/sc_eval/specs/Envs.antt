@@ -12,6 +12,7 @@ env_of e = record {
   bound = e.bound;
   session = e.session;
   chart_name = e.chart_name;
+  profile = e.profile;
 }
 
 -- each of these ids names a state below the width

@@ -9,7 +9,7 @@ use crate::data_table::DataTable;
 use crate::ids::Ids;
 use sc_base::{NoMemory, Plain, PlainName, Shared, SharedBytes, Word};
 use sc_bits::Row;
-use sc_types::{EvalFault, Event, Value};
+use sc_types::{EvalFault, Event, Profile, Value};
 use std::sync::Arc;
 
 /// What expressions read. SCXML 5.9 and 5.10.
@@ -26,6 +26,8 @@ pub struct Env {
     pub session: Word,
     /// `_name`; such as a text of the data model may be.
     pub chart_name: SharedBytes,
+    /// Which values expressions can make.
+    pub profile: Profile,
 }
 
 fn is_reserved(name: &[u8]) -> bool

@@ -24,7 +24,7 @@ pub fn eval(alloc: Global, env: &Env, e: &Expr) -> Result<Value, EvalFault>
         Expr::Bool(truth) => Ok(Value::Bool(*truth)),
         Expr::Int(number) => Ok(Value::Int(*number)),
         Expr::Text(text) => Ok(Value::Text(copied(text.copy())?)),
-        Expr::List(items) => listed(values(alloc, env, items)?),
+        Expr::List(items) => listed(env.profile, values(alloc, env, items)?),
         Expr::Datum(name) => datum(alloc, env, name.bytes()),
         Expr::Field(name) => field(alloc, env, name),
         Expr::Active(id) => Ok(Value::Bool(is_active(env, id.slice()))),
@@ -64,7 +64,7 @@ fn two_of(alloc: Global, env: &Env, op: Op, a: &Expr, b: &Expr) -> Result<Value,
         _ => {
             let left = eval(alloc, env, a)?;
             let right = eval(alloc, env, b)?;
-            two(op, left, right)
+            two(env.profile, op, left, right)
         }
     }
 }

@@ -2,35 +2,67 @@ ghost use Rattle.std.specs.Prelude.{◌≡◌};
 ghost use Rattle.sc_types.specs.declared.value.Value.{out-Value};
 ghost use Rattle.sc_eval.specs.Faults.{Gives};
 ghost use Rattle.std.specs.List.{list_all};
-ghost use Rattle.sc_law.specs.Evaluation.{is_item_kind, item_at, listed, place_in, length_of};
+ghost use Rattle.sc_law.specs.Evaluation.{is_item_kind, item_at, listed, place_in, length_of, shallow, short_list};
 
 use crate::names::copied;
 use sc_base::Sequence;
-use sc_types::{EvalFault, ITEM_LIMIT, Plain, Value};
+use sc_types::{
+    EvalFault, ITEM_LIMIT, LIST_DEPTH_LIMIT, Plain, Profile, VALUE_WEIGHT_LIMIT, Value,
+};
 
-fn is_item(value: &Value) -> bool
-    ensures { result ≡ is_item_kind value.now }
+/// Whether a list may have this item.
+fn is_item(profile: Profile, value: &Value) -> bool
+    ensures { result ≡ is_item_kind profile value.now }
 {
-    matches!(value, Value::Int(_) | Value::Text(_))
-}
-
-fn are_items(values: &[Value]) -> bool
-    ensures { result ≡ list_all is_item_kind values.now }
-{
-    values.iter().all(|v| is_item(v))
-}
-
-/// The list of these items; their kinds are looked at before their number.
-pub(crate) fn listed(items: Sequence<Value>) -> Result<Value, EvalFault>
-    ensures { result ≡ listed items }
-{
-    if !are_items(items.slice()) {
-        return Err(EvalFault::WrongKind);
+    match value {
+        Value::Bool(_) => false,
+        Value::Int(_) => true,
+        Value::Text(_) => true,
+        Value::List(_) => match profile {
+            Profile::Flat => false,
+            Profile::Nested => true,
+        },
     }
+}
+
+fn are_items(profile: Profile, values: &[Value]) -> bool
+    ensures { result ≡ list_all (is_item_kind profile) values.now }
+{
+    values.iter().all(|v| is_item(profile, v))
+}
+
+/// The list of these items, where it is within the limits of lists.
+pub(crate) fn short_list(items: Sequence<Value>) -> Result<Value, EvalFault>
+    ensures { result ≡ short_list items }
+{
     if items.len() > ITEM_LIMIT {
         return Err(EvalFault::TooLong);
     }
-    Ok(Value::List(items))
+    let list = Value::List(items);
+    if list.weight() > VALUE_WEIGHT_LIMIT {
+        return Err(EvalFault::TooLong);
+    }
+    Ok(list)
+}
+
+/// A value of which no more lists stand in one another than may.
+fn shallow(value: Value) -> Result<Value, EvalFault>
+    ensures { result ≡ shallow value }
+{
+    if value.depth() > LIST_DEPTH_LIMIT {
+        return Err(EvalFault::TooLong);
+    }
+    Ok(value)
+}
+
+/// The list that a literal makes of these items; their kinds are looked at before the limits.
+pub(crate) fn listed(profile: Profile, items: Sequence<Value>) -> Result<Value, EvalFault>
+    ensures { result ≡ listed profile items }
+{
+    if !are_items(profile, items.slice()) {
+        return Err(EvalFault::WrongKind);
+    }
+    shallow(short_list(items)?)
 }
 
 /// The item at a place, counted from 0.

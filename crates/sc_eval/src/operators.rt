@@ -7,12 +7,11 @@ ghost use Rattle.sc_eval.specs.Faults.{Gives};
 
 use crate::arithmetic::{negative, of_integers, sum};
 use crate::equality::same_value;
+use crate::lists::short_list;
 use crate::names::copied;
 use sc_base::{Bytes, NoMemory, Sequence, TextWriter};
-use sc_types::{EvalFault, ITEM_LIMIT, Op, Value};
+use sc_types::{EvalFault, ITEM_LIMIT, Op, Profile, Value};
 use std::alloc::Global;
-
-const TEXT_LIMIT: usize = 4096;
 
 /// A truth value, or a fault of kind.
 pub(crate) fn truth(value: Value) -> Result<bool, EvalFault>
@@ -74,10 +73,10 @@ fn ordered(op: Op, a: &Value, b: &Value) -> Result<Value, EvalFault>
     }
 }
 
-fn joined_texts(mut a: Bytes, b: &[u8]) -> Result<Value, EvalFault>
-    ensures { Gives result (short_text (a ++ b.now)) }
+fn joined_texts(profile: Profile, mut a: Bytes, b: &[u8]) -> Result<Value, EvalFault>
+    ensures { Gives result (short_text profile (a ++ b.now)) }
 {
-    if a.len() + b.len() > TEXT_LIMIT {
+    if a.len() + b.len() > profile.text_limit() {
         return Err(EvalFault::TooLong);
     }
     copied(a.extend(b))?;
@@ -93,17 +92,17 @@ fn joined_lists(a: Sequence<Value>, b: Sequence<Value>) -> Result<Value, EvalFau
     let mut items = a.into_vec();
     let mut more = b.into_vec();
     match items.append(&mut more) {
-        Ok(()) => Ok(Value::List(Sequence::from_vec(items))),
+        Ok(()) => short_list(Sequence::from_vec(items)),
         Err(_) => Err(EvalFault::NoMemory),
     }
 }
 
-fn sum_of(a: Value, b: Value) -> Result<Value, EvalFault>
-    ensures { Gives result (sum_of (out-Value a) (out-Value b)) }
+fn sum_of(profile: Profile, a: Value, b: Value) -> Result<Value, EvalFault>
+    ensures { Gives result (sum_of profile (out-Value a) (out-Value b)) }
 {
     match (a, b) {
         (Value::Int(a), Value::Int(b)) => sum(a, b),
-        (Value::Text(a), Value::Text(b)) => joined_texts(a, b.slice()),
+        (Value::Text(a), Value::Text(b)) => joined_texts(profile, a, b.slice()),
         (Value::List(a), Value::List(b)) => joined_lists(a, b),
         _ => Err(EvalFault::WrongKind),
     }
@@ -119,14 +118,14 @@ fn of_ints(op: Op, a: &Value, b: &Value) -> Result<Value, EvalFault>
 }
 
 /// An operator on two values. `||` and `&&` do not come here.
-pub(crate) fn two(op: Op, a: Value, b: Value) -> Result<Value, EvalFault>
-    ensures { Gives result (two op a b) }
+pub(crate) fn two(profile: Profile, op: Op, a: Value, b: Value) -> Result<Value, EvalFault>
+    ensures { Gives result (two profile op a b) }
 {
     match op {
         Op::Eq => Ok(Value::Bool(same_value(&a, &b))),
         Op::Ne => Ok(Value::Bool(!same_value(&a, &b))),
         Op::Lt | Op::Le | Op::Gt | Op::Ge => ordered(op, &a, &b),
-        Op::Add => sum_of(a, b),
+        Op::Add => sum_of(profile, a, b),
         _ => of_ints(op, &a, &b),
     }
 }

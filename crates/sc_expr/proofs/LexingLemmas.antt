@@ -3,9 +3,10 @@ use Rattle.std.proofs.Common.{◌≡◌, ℕ, ◌+◌, ◌-◌, ◌<◌, ◌≤�
 use Rattle.std.proofs.lemmas.List.{take_rest}
 use Rattle.std.specs.Prelude.{option_and_then}
 use Rattle.std.specs.List.{prefix_len, take_while}
-use Rattle.sc_types.specs.Profiles.{plain}
+use Rattle.sc_types.specs.declared.profile.Profile.{Profile}
+use Rattle.sc_types.specs.Profiles.{text_limit}
 use Rattle.sc_types.specs.Descriptors.{is_white_space}
-use Rattle.sc_base.specs.Text.{is_digit, is_text}
+use Rattle.sc_base.specs.Text.{is_digit, is_text_within}
 use Rattle.sc_types.specs.Tokens.{Read, bad, op_text, mark_text, op_at, mark_at, read_mark, read_sign, is_word_byte, number_of, negative, run_token, read_token, read_run, read_negative, escape, is_quote, is_plain_byte, before, quoted, read_quoted, first_token, without_white, tokens_step, tokens_up_to, tokens}
 use Rattle.sc_types.specs.declared.expr.Op.{Op}
 use Rattle.sc_types.specs.declared.expr.Op.TheVariants.{Or}
@@ -48,10 +49,10 @@ left-quoted quote (b ∷ c ∷ rest) =
     left-quote b c rest (quoted quote (c ∷ rest)) (quoted quote rest) (escape c) (b == quote) (b == 92) (is_plain_byte b)
     (left-quoted quote rest) (left-quoted quote (c ∷ rest))
 
-left-read_quoted : (q : Option (List ℕ × List ℕ)) → length (read_quoted plain q).1 ≤ left q
+left-read_quoted : (profile : Profile) (q : Option (List ℕ × List ℕ)) → length (read_quoted profile q).1 ≤ left q
 unfolding left
-left-read_quoted None = omega arith
-left-read_quoted (Some q) = by (is_text q.0)
+left-read_quoted profile None = omega arith
+left-read_quoted profile (Some q) = by (is_text_within (text_limit profile) q.0)
   where
     by : (v : Bool) → length (if v then (Text q.0, q.1) else bad).1 ≤ length q.1
     by true = omega arith
@@ -103,51 +104,51 @@ left-choice k q r n s false false true a b c d = c
 left-choice k q r n s false false false a b c d = d
 
 -- a token takes a byte or more
-pub first_token-takes : (signed : Bool) (b : ℕ) (rest : List ℕ) → length (first_token plain signed b rest).1 ≤ length rest
+pub first_token-takes : (profile : Profile) (signed : Bool) (b : ℕ) (rest : List ℕ) → length (first_token profile signed b rest).1 ≤ length rest
 unfolding first_token
-first_token-takes signed b rest =
-    left-choice (length rest) (read_quoted plain (quoted b rest)) (read_run (b ∷ rest)) (read_negative rest) (read_sign (b ∷ rest) (op_at (b ∷ rest)))
+first_token-takes profile signed b rest =
+    left-choice (length rest) (read_quoted profile (quoted b rest)) (read_run (b ∷ rest)) (read_negative rest) (read_sign (b ∷ rest) (op_at (b ∷ rest)))
     (is_quote b) (is_word_byte b) (signed && b == 45 && is_digit (get_or rest 0 0))
-    (omega (arith, left-read_quoted (quoted b rest), left-quoted b rest))
+    (omega (arith, left-read_quoted profile (quoted b rest), left-quoted b rest))
     (left-run b rest) (left-negative rest) (left-read_sign b rest (op_at (b ∷ rest)))
 
 -- ---- so a text has no more tokens than bytes
 
-tokens_step-same : (signed : Bool) (later other : List ℕ → List Token) (text : List ℕ) → ((rest : List ℕ) → length rest < length text → later rest ≡ other rest)
-    → tokens_step plain signed later text ≡ tokens_step plain signed other text
-tokens_step-same signed later other [] same = refl
-tokens_step-same signed later other (b ∷ rest) same =
-    ap (λ ts. (first_token plain signed b rest).0 ∷ ts) (same (first_token plain signed b rest).1 (omega (arith, first_token-takes signed b rest)))
+tokens_step-same : (profile : Profile) (signed : Bool) (later other : List ℕ → List Token) (text : List ℕ) → ((rest : List ℕ) → length rest < length text → later rest ≡ other rest)
+    → tokens_step profile signed later text ≡ tokens_step profile signed other text
+tokens_step-same profile signed later other [] same = refl
+tokens_step-same profile signed later other (b ∷ rest) same =
+    ap (λ ts. (first_token profile signed b rest).0 ∷ ts) (same (first_token profile signed b rest).1 (omega (arith, first_token-takes profile signed b rest)))
 
 length-without_white : (text : List ℕ) → length (without_white text) ≤ length text
 length-without_white text = omega (arith, length-drop (prefix_len is_white_space text) text)
 
-tokens_up_to-enough : (n m : ℕ) (signed : Bool) (text : List ℕ) → length text ≤ n → length text ≤ m → tokens_up_to n plain signed text ≡ tokens_up_to m plain signed text
-tokens_up_to-enough zero zero signed text h k = refl
-tokens_up_to-enough zero (suc m) signed [] h k = refl
-tokens_up_to-enough zero (suc m) signed (b ∷ rest) h k = absurd (omega arith)
-tokens_up_to-enough (suc n) zero signed [] h k = refl
-tokens_up_to-enough (suc n) zero signed (b ∷ rest) h k = absurd (omega arith)
-tokens_up_to-enough (suc n) (suc m) signed text h k =
-    tokens_step-same signed (tokens_up_to n plain signed) (tokens_up_to m plain signed) (without_white text)
-    (λ rest l. tokens_up_to-enough n m signed rest (omega (arith, length-without_white text)) (omega (arith, length-without_white text)))
+tokens_up_to-enough : (profile : Profile) (n m : ℕ) (signed : Bool) (text : List ℕ) → length text ≤ n → length text ≤ m → tokens_up_to n profile signed text ≡ tokens_up_to m profile signed text
+tokens_up_to-enough profile zero zero signed text h k = refl
+tokens_up_to-enough profile zero (suc m) signed [] h k = refl
+tokens_up_to-enough profile zero (suc m) signed (b ∷ rest) h k = absurd (omega arith)
+tokens_up_to-enough profile (suc n) zero signed [] h k = refl
+tokens_up_to-enough profile (suc n) zero signed (b ∷ rest) h k = absurd (omega arith)
+tokens_up_to-enough profile (suc n) (suc m) signed text h k =
+    tokens_step-same profile signed (tokens_up_to n profile signed) (tokens_up_to m profile signed) (without_white text)
+    (λ rest l. tokens_up_to-enough profile n m signed rest (omega (arith, length-without_white text)) (omega (arith, length-without_white text)))
 
 -- the first token, and then the tokens of what stands behind it
-pub tokens_next : (signed : Bool) (text : List ℕ) → tokens plain signed text ≡ tokens_step plain signed (tokens plain signed) (without_white text)
+pub tokens_next : (profile : Profile) (signed : Bool) (text : List ℕ) → tokens profile signed text ≡ tokens_step profile signed (tokens profile signed) (without_white text)
 unfolding tokens
-tokens_next signed text =
-    tokens_up_to-enough (length text) (suc (length text)) signed text (omega arith) (omega arith)
-    ∙ tokens_step-same signed (tokens_up_to (length text) plain signed) (tokens plain signed) (without_white text)
-    (λ rest l. tokens_up_to-enough (length text) (length rest) signed rest (omega (arith, length-without_white text)) (omega arith))
+tokens_next profile signed text =
+    tokens_up_to-enough profile (length text) (suc (length text)) signed text (omega arith) (omega arith)
+    ∙ tokens_step-same profile signed (tokens_up_to (length text) profile signed) (tokens profile signed) (without_white text)
+    (λ rest l. tokens_up_to-enough profile (length text) (length rest) signed rest (omega (arith, length-without_white text)) (omega arith))
 
 -- where nothing but white space is left
-pub tokens_none : (signed : Bool) (text : List ℕ) → without_white text ≡ [] → tokens plain signed text ≡ []
-tokens_none signed text h = tokens_next signed text ∙ ap (tokens_step plain signed (tokens plain signed)) h
+pub tokens_none : (profile : Profile) (signed : Bool) (text : List ℕ) → without_white text ≡ [] → tokens profile signed text ≡ []
+tokens_none profile signed text h = tokens_next profile signed text ∙ ap (tokens_step profile signed (tokens profile signed)) h
 
 -- where a byte stands behind the white space
-pub tokens_some : (signed : Bool) (text : List ℕ) (b : ℕ) (rest : List ℕ) → without_white text ≡ b ∷ rest
-    → tokens plain signed text ≡ (first_token plain signed b rest).0 ∷ tokens plain signed (first_token plain signed b rest).1
-tokens_some signed text b rest h = tokens_next signed text ∙ ap (tokens_step plain signed (tokens plain signed)) h
+pub tokens_some : (profile : Profile) (signed : Bool) (text : List ℕ) (b : ℕ) (rest : List ℕ) → without_white text ≡ b ∷ rest
+    → tokens profile signed text ≡ (first_token profile signed b rest).0 ∷ tokens profile signed (first_token profile signed b rest).1
+tokens_some profile signed text b rest h = tokens_next profile signed text ∙ ap (tokens_step profile signed (tokens profile signed)) h
 
 -- ---- the first token of a text, by its first byte
 
@@ -156,16 +157,16 @@ whole [] h = absurd (omega arith)
 whole (b ∷ rest) h = refl
 
 -- a quote begins a text in quotes
-pub first_quoted : (signed : Bool) (text : List ℕ) → is_quote (get_or text 0 0) ≡ true
-    → read_quoted plain (quoted (get_or text 0 0) (take (length text - 1) (drop 1 text))) ≡ first_token plain signed (get_or text 0 0) (drop 1 text)
+pub first_quoted : (profile : Profile) (signed : Bool) (text : List ℕ) → is_quote (get_or text 0 0) ≡ true
+    → read_quoted profile (quoted (get_or text 0 0) (take (length text - 1) (drop 1 text))) ≡ first_token profile signed (get_or text 0 0) (drop 1 text)
 unfolding first_token
-first_quoted signed text h = rw (h, take_rest text 1)
+first_quoted profile signed text h = rw (h, take_rest text 1)
 
 -- a letter, a digit or `_` begins a run
-pub first_run : (signed : Bool) (text : List ℕ) → 0 < length text → is_quote (get_or text 0 0) ≡ false → is_word_byte (get_or text 0 0) ≡ true
-    → read_run text ≡ first_token plain signed (get_or text 0 0) (drop 1 text)
+pub first_run : (profile : Profile) (signed : Bool) (text : List ℕ) → 0 < length text → is_quote (get_or text 0 0) ≡ false → is_word_byte (get_or text 0 0) ≡ true
+    → read_run text ≡ first_token profile signed (get_or text 0 0) (drop 1 text)
 unfolding first_token
-first_run signed text s h k = ap read_run (whole text s) ∙ rw (h, k) refl
+first_run profile signed text s h k = ap read_run (whole text s) ∙ rw (h, k) refl
 
 third : (q r n s : Read) (u v w : Bool) → u ≡ false → v ≡ false → w ≡ true → n ≡ (if u then q else if v then r else if w then n else s)
 third q r n s u v w h k l = rw (h, k, l)
@@ -177,28 +178,28 @@ begins_negative : Bool → ℕ → List ℕ → Bool
 begins_negative signed b rest = signed && b == 45 && is_digit (get_or rest 0 0)
 
 -- a `-` before a digit begins a negative number, where these are read
-pub first_negative : (signed : Bool) (text : List ℕ) → is_quote (get_or text 0 0) ≡ false → is_word_byte (get_or text 0 0) ≡ false
+pub first_negative : (profile : Profile) (signed : Bool) (text : List ℕ) → is_quote (get_or text 0 0) ≡ false → is_word_byte (get_or text 0 0) ≡ false
     → signed && get_or text 0 0 == 45 && is_digit (get_or (take (length text - 1) (drop 1 text)) 0 0) ≡ true
-    → read_negative (take (length text - 1) (drop 1 text)) ≡ first_token plain signed (get_or text 0 0) (drop 1 text)
+    → read_negative (take (length text - 1) (drop 1 text)) ≡ first_token profile signed (get_or text 0 0) (drop 1 text)
 unfolding first_token begins_negative
-first_negative signed text h k l =
+first_negative profile signed text h k l =
     let b = get_or text 0 0 in
     let rest = drop 1 text in
     ap read_negative (take_rest text 1)
-    ∙ third (read_quoted plain (quoted b rest)) (read_run (b ∷ rest)) (read_negative rest) (read_sign (b ∷ rest) (op_at (b ∷ rest)))
+    ∙ third (read_quoted profile (quoted b rest)) (read_run (b ∷ rest)) (read_negative rest) (read_sign (b ∷ rest) (op_at (b ∷ rest)))
     (is_quote b) (is_word_byte b) (begins_negative signed b rest) h k
     (ap (begins_negative signed b) (sym (take_rest text 1)) ∙ l)
 
 -- any other byte begins an operator or a mark
-pub first_sign : (signed : Bool) (text : List ℕ) → 0 < length text → is_quote (get_or text 0 0) ≡ false → is_word_byte (get_or text 0 0) ≡ false
+pub first_sign : (profile : Profile) (signed : Bool) (text : List ℕ) → 0 < length text → is_quote (get_or text 0 0) ≡ false → is_word_byte (get_or text 0 0) ≡ false
     → signed && get_or text 0 0 == 45 && is_digit (get_or (take (length text - 1) (drop 1 text)) 0 0) ≡ false
-    → read_sign text (op_at text) ≡ first_token plain signed (get_or text 0 0) (drop 1 text)
+    → read_sign text (op_at text) ≡ first_token profile signed (get_or text 0 0) (drop 1 text)
 unfolding first_token begins_negative
-first_sign signed text s h k l =
+first_sign profile signed text s h k l =
     let b = get_or text 0 0 in
     let rest = drop 1 text in
     ap (λ t. read_sign t (op_at t)) (whole text s)
-    ∙ last (read_quoted plain (quoted b rest)) (read_run (b ∷ rest)) (read_negative rest) (read_sign (b ∷ rest) (op_at (b ∷ rest)))
+    ∙ last (read_quoted profile (quoted b rest)) (read_run (b ∷ rest)) (read_negative rest) (read_sign (b ∷ rest) (op_at (b ∷ rest)))
     (is_quote b) (is_word_byte b) (begins_negative signed b rest) h k
     (ap (begins_negative signed b) (sym (take_rest text 1)) ∙ l)
 
@@ -209,15 +210,15 @@ empty_of [] h = refl
 empty_of (b ∷ rest) h = absurd (omega arith)
 
 -- nothing but white space has no token
-pub at_end : (signed : Bool) (text behind : List ℕ) → behind ≡ without_white text → length behind == 0 ≡ true
-    → (tokens plain signed text ≡ []) × (tokens plain signed behind ≡ [])
-at_end signed text behind w h =
+pub at_end : (profile : Profile) (signed : Bool) (text behind : List ℕ) → behind ≡ without_white text → length behind == 0 ≡ true
+    → (tokens profile signed text ≡ []) × (tokens profile signed behind ≡ [])
+at_end profile signed text behind w h =
     let e : behind ≡ [] = empty_of behind (is_zero (length behind) h) in
-    (tokens_none signed text (sym w ∙ e), ap (tokens plain signed) e ∙ tokens_none signed [] refl)
+    (tokens_none profile signed text (sym w ∙ e), ap (tokens profile signed) e ∙ tokens_none profile signed [] refl)
 
 -- behind the white space stands the first token, and behind it the others
-pub at_token : (signed : Bool) (text behind : List ℕ) (r : Read) → behind ≡ without_white text → length behind == 0 ≡ false
-    → r ≡ first_token plain signed (get_or behind 0 0) (drop 1 behind) → tokens plain signed text ≡ r.0 ∷ tokens plain signed r.1
-at_token signed text behind r w h e =
-    tokens_some signed text (get_or behind 0 0) (drop 1 behind) (sym w ∙ whole behind (is_above (length behind) h))
-    ∙ ap (λ (q : Read). q.0 ∷ tokens plain signed q.1) (sym e)
+pub at_token : (profile : Profile) (signed : Bool) (text behind : List ℕ) (r : Read) → behind ≡ without_white text → length behind == 0 ≡ false
+    → r ≡ first_token profile signed (get_or behind 0 0) (drop 1 behind) → tokens profile signed text ≡ r.0 ∷ tokens profile signed r.1
+at_token profile signed text behind r w h e =
+    tokens_some profile signed text (get_or behind 0 0) (drop 1 behind) (sym w ∙ whole behind (is_above (length behind) h))
+    ∙ ap (λ (q : Read). q.0 ∷ tokens profile signed q.1) (sym e)

@@ -9,6 +9,7 @@ pub mod LevelLemmas
 pub mod LexingLemmas
 pub mod LimitLemmas
 pub mod LiteralLemmas
+pub mod NestedLemmas
 pub mod LoopLemmas
 pub mod NumberLemmas
 pub mod Printed

@@ -1,70 +1,47 @@
 -- How literals are read and written.
 use Rattle.std.proofs.Common.{◌≡◌, Bool, true, false, Option, Some, None, List, [], ◌∷◌, ◌++◌, ℕ, refl, ap, sym, ◌∙◌, append_assoc, ◌+◌, ◌<◌, ◌≤◌, length, take, get_or, arith}
-use Rattle.std.proofs.lemmas.Bool.{lt-ltb}
+use Rattle.std.proofs.lemmas.Bool.{cond-false, cond-true, lt-ltb}
 use Rattle.std.proofs.lemmas.List.{take_more, map-append, length-map, length-take-le, take_all}
 use Rattle.std.specs.Fmt.{signed_decimal}
-use Rattle.std.specs.Prelude.{option_map, option_and_then, ℤ, codes, map}
-use Rattle.std.proofs.lemmas.Option.{some_pair_parts}
-use Rattle.sc_types.specs.Profiles.{plain}
+use Rattle.std.specs.Prelude.{option_and_then, ℤ, codes, map}
+use Rattle.sc_types.specs.declared.profile.Profile.TheVariants.{Nested}
 use Rattle.sc_types.specs.Tokens.{tokens}
-use Rattle.sc_types.specs.Values.{is_trimmed, value_of, literal_value, item_of, further_items, value_text, truth_text, text_literal, joined, value_step}
-use Rattle.sc_types.specs.declared.token.Mark.TheVariants.{Comma}
+use Rattle.sc_types.specs.Values.{Open, behind, due, fit_value, fits, is_trimmed, joined, literal_value, text_literal, truth_text, value_step, value_text}
+use Rattle.sc_types.specs.declared.token.Mark.TheVariants.{CloseSquare, Comma}
 use Rattle.sc_types.specs.declared.token.Token.{Token}
 use Rattle.sc_types.specs.declared.token.Token.TheVariants.{Mark as Sign}
 use Rattle.sc_types.specs.declared.value.Value.{Value}
 use Rattle.sc_types.specs.declared.value.Value.TheFolds.{fold-roll-Value}
 use Rattle.sc_types.specs.declared.value.Value.TheOpen.{Value-F}
 use Rattle.sc_types.specs.declared.value.Value.TheVariants.{Bool as Truth, Int, Text as Quoted, List as Listed, rolls-Bool, rolls-Int, rolls-Text, rolls-List}
-use Rattle.sc_expr.specs.Literals.{first_item, separated, comma}
+use Rattle.sc_expr.specs.Literals.{after_items, comma}
 
--- a text without white space round it is the literal of its tokens
-pub literal_trimmed : (text : List ℕ) → is_trimmed text ≡ true → literal_value text ≡ value_of (tokens plain true text)
+-- ---- the value of a text
+
+-- a value that was read and is within the limits is the text's
+pub literal_read : (text : List ℕ) (v : Value) → is_trimmed text ≡ true → due [] (tokens Nested true text) ≡ Some v
+    → fits v ≡ true → literal_value text ≡ Some v
 unfolding literal_value
-literal_trimmed text h = rw h
+literal_read text v h read fine = cond-true (is_trimmed text) _ _ h ∙ ap (option_and_then fit_value) read ∙ cond-true (fits v) (Some v) None fine
 
 -- a text with white space round it is no literal
 pub literal_untrimmed : (text : List ℕ) → is_trimmed text ≡ false → literal_value text ≡ None
 unfolding literal_value
 literal_untrimmed text h = rw h
 
--- ---- the items of a list
+-- nor is one whose tokens are none
+pub literal_unread : (text : List ℕ) → is_trimmed text ≡ true → due [] (tokens Nested true text) ≡ None
+    → literal_value text ≡ None
+unfolding literal_value
+literal_unread text h read = cond-true (is_trimmed text) _ _ h ∙ ap (option_and_then fit_value) read
 
--- where the list goes on, a comma comes next
-pub at_comma : (more : Bool) (ts rest : List Token) → more ≡ true → separated more ts rest → ts ≡ Sign Comma ∷ rest
-at_comma true ts rest h e = e
-at_comma false ts rest h e = cc
+-- nor is one whose value is past the limits
+pub literal_unfit : (text : List ℕ) (v : Value) → is_trimmed text ≡ true → due [] (tokens Nested true text) ≡ Some v
+    → fits v ≡ false → literal_value text ≡ None
+unfolding literal_value
+literal_unfit text v h read bad = cond-true (is_trimmed text) _ _ h ∙ ap (option_and_then fit_value) read ∙ cond-false (fits v) (Some v) None bad
 
-no_first : (rest : List Token) → first_item rest ≡ None → further_items (Sign Comma ∷ rest) ≡ None
-no_first [] h = refl
-no_first (t ∷ ts) h = by (item_of t) h
-  where
-    by : (o : Option Value) → option_map {U = Value × List Token} (λ v. (v, ts)) o ≡ None → option_and_then (λ v. option_map (λ vs. v ∷ vs) (further_items ts)) o ≡ None
-    by None h = refl
-    by (Some v) h = cc
-
-a_first : (rest : List Token) (v : Value) (new : List Token) → first_item rest ≡ Some (v, new) → further_items (Sign Comma ∷ rest) ≡ option_map (λ vs. v ∷ vs) (further_items new)
-a_first [] v new h = cc
-a_first (t ∷ ts) v new h = by (item_of t) h
-  where
-    by : (o : Option Value) → option_map {U = Value × List Token} (λ v. (v, ts)) o ≡ Some (v, new)
-        → option_and_then (λ v. option_map (λ vs. v ∷ vs) (further_items ts)) o ≡ option_map (λ vs. v ∷ vs) (further_items new)
-    by None h = cc
-    by (Some w) h = let p = some_pair_parts w v ts new h in rw (p.0, p.1)
-
--- a comma without an item behind it is refused
-pub no_item : (ts rest : List Token) → ts ≡ Sign Comma ∷ rest → first_item rest ≡ None → further_items ts ≡ None
-no_item ts rest e h = ap further_items e ∙ no_first rest h
-
-added : (items : List Value) (v : Value) (o : Option (List Value)) → option_map (λ vs. (items ++ v ∷ []) ++ vs) o ≡ option_map (λ vs. items ++ vs) (option_map (λ vs. v ∷ vs) o)
-added items v None = refl
-added items v (Some vs) = ap (λ all. Some all) (append_assoc items (v ∷ []) vs)
-
--- one item more was read
-pub an_item : (ts rest new : List Token) (v : Value) (items all : List Value) → ts ≡ Sign Comma ∷ rest → first_item rest ≡ Some (v, new) → all ≡ items ++ v ∷ []
-    → option_map (λ vs. all ++ vs) (further_items new) ≡ option_map (λ vs. items ++ vs) (further_items ts)
-an_item ts rest new v items all e h a =
-    ap (λ (all : List Value). option_map (λ vs. all ++ vs) (further_items new)) a ∙ added items v (further_items new)
-    ∙ ap (option_map (λ vs. items ++ vs)) (sym (a_first rest v new h) ∙ ap further_items (sym e))
+pub ruleset literals = (literal_read, literal_untrimmed, literal_unread, literal_unfit)
 
 -- ---- the text of a value
 

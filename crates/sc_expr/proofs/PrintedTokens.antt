@@ -5,9 +5,10 @@ use Rattle.std.proofs.lemmas.Bool.{true≢false, ne_eqb, lt-ltb, le-leb, cases_e
 use Rattle.std.proofs.lemmas.Bool.Decides.{nat_tests}
 use Rattle.std.proofs.lemmas.Slice.Eq.{bytes_eq-Decides}
 use Rattle.std.proofs.lemmas.Fmt.{decimal_is_IsNumeral, decimal_by_steps}
-use Rattle.sc_types.specs.Profiles.{plain}
+use Rattle.sc_types.specs.declared.profile.Profile.{Profile}
+use Rattle.sc_types.specs.Profiles.{text_limit}
 use Rattle.sc_types.specs.Descriptors.{is_white_space}
-use Rattle.sc_base.specs.Text.{is_letter, is_digit, is_text, is_text_byte, starts_with_letter}
+use Rattle.sc_base.specs.Text.{is_letter, is_digit, is_text_within, is_text_byte, starts_with_letter}
 use Rattle.sc_types.specs.Tokens.{op_text, mark_text, Read, is_word_byte, is_quote, number_of, positive, negative, run_token, read_token, read_quoted, read_sign, bad, before, is_plain_byte, quoted, first_token, tokens, tokens_step}
 use Rattle.sc_types.specs.Values.{escaped}
 use Rattle.sc_types.specs.declared.expr.Op.{Op}
@@ -21,18 +22,18 @@ use Rattle.sc_expr.proofs.LexingLemmas.{tokens_next, tokens_none}
 -- A lemma on what a text begins with takes the tokens of the rest, `tokens signed text ≡ ts`, and gives those of the whole.
 
 -- a byte with which a token begins
-first_is : (signed : Bool) (b : ℕ) (text : List ℕ) (t : Token) (rest : List ℕ) → is_white_space b ≡ false
-    → first_token plain signed b text ≡ (t, rest) → tokens plain signed (b ∷ text) ≡ t ∷ tokens plain signed rest
-first_is signed b text t rest dark e =
-    tokens_next signed (b ∷ text)
-    ∙ ap (λ (c : Bool). tokens_step plain signed (tokens plain signed) (drop (cond c (1 + prefix_len is_white_space text) 0) (b ∷ text))) dark
-    ∙ ap (λ (r : Read). r.0 ∷ tokens plain signed r.1) e
+first_is : (profile : Profile) (signed : Bool) (b : ℕ) (text : List ℕ) (t : Token) (rest : List ℕ) → is_white_space b ≡ false
+    → first_token profile signed b text ≡ (t, rest) → tokens profile signed (b ∷ text) ≡ t ∷ tokens profile signed rest
+first_is profile signed b text t rest dark e =
+    tokens_next profile signed (b ∷ text)
+    ∙ ap (λ (c : Bool). tokens_step profile signed (tokens profile signed) (drop (cond c (1 + prefix_len is_white_space text) 0) (b ∷ text))) dark
+    ∙ ap (λ (r : Read). r.0 ∷ tokens profile signed r.1) e
 
-space_tokens : (signed : Bool) (text : List ℕ) → tokens plain signed (32 ∷ text) ≡ tokens plain signed text
-space_tokens signed text =
-    tokens_next signed (32 ∷ text)
-    ∙ ap (λ n. tokens_step plain signed (tokens plain signed) (drop n (32 ∷ text))) (one-add (prefix_len is_white_space text))
-    ∙ sym (tokens_next signed text)
+space_tokens : (profile : Profile) (signed : Bool) (text : List ℕ) → tokens profile signed (32 ∷ text) ≡ tokens profile signed text
+space_tokens profile signed text =
+    tokens_next profile signed (32 ∷ text)
+    ∙ ap (λ n. tokens_step profile signed (tokens profile signed) (drop n (32 ∷ text))) (one-add (prefix_len is_white_space text))
+    ∙ sym (tokens_next profile signed text)
 
 -- signs
 
@@ -41,71 +42,71 @@ abbrev pub stands_alone : Mark → Bool
 stands_alone Not = false
 stands_alone m = true
 
-mark_first : (signed : Bool) (m : Mark) (text : List ℕ) → stands_alone m ≡ true → tokens plain signed (mark_text m ++ text) ≡ Sign m ∷ tokens plain signed text
+mark_first : (profile : Profile) (signed : Bool) (m : Mark) (text : List ℕ) → stands_alone m ≡ true → tokens profile signed (mark_text m ++ text) ≡ Sign m ∷ tokens profile signed text
 unfolding first_token
-mark_first signed Not text alone = absurd (cc)
-mark_first true Open text alone = first_is true _ _ _ _ refl refl
-mark_first false Open text alone = first_is false _ _ _ _ refl refl
-mark_first true Close text alone = first_is true _ _ _ _ refl refl
-mark_first false Close text alone = first_is false _ _ _ _ refl refl
-mark_first true OpenSquare text alone = first_is true _ _ _ _ refl refl
-mark_first false OpenSquare text alone = first_is false _ _ _ _ refl refl
-mark_first true CloseSquare text alone = first_is true _ _ _ _ refl refl
-mark_first false CloseSquare text alone = first_is false _ _ _ _ refl refl
-mark_first true Comma text alone = first_is true _ _ _ _ refl refl
-mark_first false Comma text alone = first_is false _ _ _ _ refl refl
-mark_first true Dot text alone = first_is true _ _ _ _ refl refl
-mark_first false Dot text alone = first_is false _ _ _ _ refl refl
+mark_first profile signed Not text alone = absurd (cc)
+mark_first profile true Open text alone = first_is profile true _ _ _ _ refl refl
+mark_first profile false Open text alone = first_is profile false _ _ _ _ refl refl
+mark_first profile true Close text alone = first_is profile true _ _ _ _ refl refl
+mark_first profile false Close text alone = first_is profile false _ _ _ _ refl refl
+mark_first profile true OpenSquare text alone = first_is profile true _ _ _ _ refl refl
+mark_first profile false OpenSquare text alone = first_is profile false _ _ _ _ refl refl
+mark_first profile true CloseSquare text alone = first_is profile true _ _ _ _ refl refl
+mark_first profile false CloseSquare text alone = first_is profile false _ _ _ _ refl refl
+mark_first profile true Comma text alone = first_is profile true _ _ _ _ refl refl
+mark_first profile false Comma text alone = first_is profile false _ _ _ _ refl refl
+mark_first profile true Dot text alone = first_is profile true _ _ _ _ refl refl
+mark_first profile false Dot text alone = first_is profile false _ _ _ _ refl refl
 
 -- a sign
-pub mark_tokens : (signed : Bool) (m : Mark) (text : List ℕ) {ts : List Token} → stands_alone m ≡ true
-    → tokens plain signed text ≡ ts → tokens plain signed (mark_text m ++ text) ≡ Sign m ∷ ts
-mark_tokens signed m text alone go = mark_first signed m text alone ∙ ap (λ us. Sign m ∷ us) go
+pub mark_tokens : (profile : Profile) (signed : Bool) (m : Mark) (text : List ℕ) {ts : List Token} → stands_alone m ≡ true
+    → tokens profile signed text ≡ ts → tokens profile signed (mark_text m ++ text) ≡ Sign m ∷ ts
+mark_tokens profile signed m text alone go = mark_first profile signed m text alone ∙ ap (λ us. Sign m ∷ us) go
 
 -- a text that does not make `!=` of `!`
 abbrev pub FollowsBang : List ℕ → Type 0
 FollowsBang [] = ⊥
 FollowsBang (b ∷ text) = (61 == b) ≡ false
 
-bang_first : (text : List ℕ) → FollowsBang text → tokens plain false (33 ∷ text) ≡ Sign Not ∷ tokens plain false text
+bang_first : (profile : Profile) (text : List ℕ) → FollowsBang text → tokens profile false (33 ∷ text) ≡ Sign Not ∷ tokens profile false text
 unfolding first_token
-bang_first [] follows = absurd follows
-bang_first (b ∷ text) follows =
-    first_is false 33 (b ∷ text) (Sign Not) (b ∷ text) refl (ap (λ (c : Bool). read_sign (33 ∷ b ∷ text) (cond (c && true) (Some Ne) None)) follows)
+bang_first profile [] follows = absurd follows
+bang_first profile (b ∷ text) follows =
+    first_is profile false 33 (b ∷ text) (Sign Not) (b ∷ text) refl (ap (λ (c : Bool). read_sign (33 ∷ b ∷ text) (cond (c && true) (Some Ne) None)) follows)
 
 -- `!`
-pub bang_tokens : (text : List ℕ) {ts : List Token} → FollowsBang text → tokens plain false text ≡ ts → tokens plain false (33 ∷ text) ≡ Sign Not ∷ ts
-bang_tokens text follows go = bang_first text follows ∙ ap (λ us. Sign Not ∷ us) go
+pub bang_tokens : (profile : Profile) (text : List ℕ) {ts : List Token} → FollowsBang text → tokens profile false text ≡ ts → tokens profile false (33 ∷ text) ≡ Sign Not ∷ ts
+bang_tokens profile text follows go = bang_first profile text follows ∙ ap (λ us. Sign Not ∷ us) go
 
-minus_first : (text : List ℕ) → tokens plain false (45 ∷ text) ≡ Operator Sub ∷ tokens plain false text
+minus_first : (profile : Profile) (text : List ℕ) → tokens profile false (45 ∷ text) ≡ Operator Sub ∷ tokens profile false text
 unfolding first_token
-minus_first text = first_is false 45 text (Operator Sub) text refl refl
+minus_first profile text = first_is profile false 45 text (Operator Sub) text refl refl
 
 -- `-`, where it is an operator
-pub minus_tokens : (text : List ℕ) {ts : List Token} → tokens plain false text ≡ ts → tokens plain false (45 ∷ text) ≡ Operator Sub ∷ ts
-minus_tokens text go = minus_first text ∙ ap (λ us. Operator Sub ∷ us) go
+pub minus_tokens : (profile : Profile) (text : List ℕ) {ts : List Token} → tokens profile false text ≡ ts → tokens profile false (45 ∷ text) ≡ Operator Sub ∷ ts
+minus_tokens profile text go = minus_first profile text ∙ ap (λ us. Operator Sub ∷ us) go
 
 -- an operator before a space
-operator_first : (op : Op) (text : List ℕ) → tokens plain false (op_text op ++ 32 ∷ text) ≡ Operator op ∷ tokens plain false (32 ∷ text)
+operator_first : (profile : Profile) (op : Op) (text : List ℕ) → tokens profile false (op_text op ++ 32 ∷ text) ≡ Operator op ∷ tokens profile false (32 ∷ text)
 unfolding first_token
-operator_first Or text = first_is false _ _ _ _ refl refl
-operator_first And text = first_is false _ _ _ _ refl refl
-operator_first Eq text = first_is false _ _ _ _ refl refl
-operator_first Ne text = first_is false _ _ _ _ refl refl
-operator_first Lt text = first_is false _ _ _ _ refl refl
-operator_first Le text = first_is false _ _ _ _ refl refl
-operator_first Gt text = first_is false _ _ _ _ refl refl
-operator_first Ge text = first_is false _ _ _ _ refl refl
-operator_first Add text = first_is false _ _ _ _ refl refl
-operator_first Sub text = first_is false _ _ _ _ refl refl
-operator_first Mul text = first_is false _ _ _ _ refl refl
-operator_first Div text = first_is false _ _ _ _ refl refl
-operator_first Rem text = first_is false _ _ _ _ refl refl
+operator_first profile Or text = first_is profile false _ _ _ _ refl refl
+operator_first profile And text = first_is profile false _ _ _ _ refl refl
+operator_first profile Eq text = first_is profile false _ _ _ _ refl refl
+operator_first profile Ne text = first_is profile false _ _ _ _ refl refl
+operator_first profile Lt text = first_is profile false _ _ _ _ refl refl
+operator_first profile Le text = first_is profile false _ _ _ _ refl refl
+operator_first profile Gt text = first_is profile false _ _ _ _ refl refl
+operator_first profile Ge text = first_is profile false _ _ _ _ refl refl
+operator_first profile Add text = first_is profile false _ _ _ _ refl refl
+operator_first profile Sub text = first_is profile false _ _ _ _ refl refl
+operator_first profile Mul text = first_is profile false _ _ _ _ refl refl
+operator_first profile Div text = first_is profile false _ _ _ _ refl refl
+operator_first profile Rem text = first_is profile false _ _ _ _ refl refl
 
 -- an operator between spaces
-pub operator_tokens : (op : Op) (text : List ℕ) {ts : List Token} → tokens plain false text ≡ ts → tokens plain false (32 ∷ op_text op ++ 32 ∷ text) ≡ Operator op ∷ ts
-operator_tokens op text go =
-    space_tokens false (op_text op ++ 32 ∷ text) ∙ operator_first op text ∙ ap (λ us. Operator op ∷ us) (space_tokens false text ∙ go)
+pub operator_tokens : (profile : Profile) (op : Op) (text : List ℕ) {ts : List Token} → tokens profile false text ≡ ts → tokens profile false (32 ∷ op_text op ++ 32 ∷ text) ≡ Operator op ∷ ts
+operator_tokens profile op text go =
+    space_tokens profile false (op_text op ++ 32 ∷ text) ∙ operator_first profile op text ∙ ap (λ us. Operator op ∷ us) (space_tokens profile false text ∙ go)
 
 -- words and numbers
 
@@ -115,12 +116,12 @@ EndsRun [] = Unit {0}
 EndsRun (b ∷ text) = is_word_byte b ≡ false
 
 -- a text that is read as these tokens, unless its last run goes on
-pub record ReadsAs (signed : Bool) (text : List ℕ) (ts : List Token) : Type 0 where
-  pub before : (rest : List ℕ) → {us : List Token} → EndsRun rest → tokens plain signed rest ≡ us → tokens plain signed (text ++ rest) ≡ ts ++ us
+pub record ReadsAs (profile : Profile) (signed : Bool) (text : List ℕ) (ts : List Token) : Type 0 where
+  pub before : (rest : List ℕ) → {us : List Token} → EndsRun rest → tokens profile signed rest ≡ us → tokens profile signed (text ++ rest) ≡ ts ++ us
 
 -- a text of these tokens is read as them, where nothing stands behind it
-pub reads_alone : {signed : Bool} {text : List ℕ} {ts : List Token} → ReadsAs signed text ts → tokens plain signed text ≡ ts
-reads_alone {signed} r = simp append-nil at (r.before [] tt (tokens_none signed [] refl))
+pub reads_alone : (profile : Profile) {signed : Bool} {text : List ℕ} {ts : List Token} → ReadsAs profile signed text ts → tokens profile signed text ≡ ts
+reads_alone profile {signed} r = simp append-nil at (r.before [] tt (tokens_none profile signed [] refl))
 
 -- how long a run is
 run_length : (w text : List ℕ) → list_all is_word_byte w ≡ true → EndsRun text → prefix_len is_word_byte (w ++ text) ≡ length w
@@ -156,23 +157,23 @@ word_is_not_white b word =
     or_from _ _ (or_from _ _ (or_from _ _ (apart is_word_byte b 32 word refl) (apart is_word_byte b 9 word refl)) (apart is_word_byte b 10 word refl)) (apart is_word_byte b 13 word refl)
 
 -- a run whose token is no bad one
-run_tokens : (signed : Bool) (b : ℕ) (w text : List ℕ) (t : Token) → list_all is_word_byte (b ∷ w) ≡ true → EndsRun text
-    → read_token (run_token (b ∷ w)) text ≡ (t, text) → tokens plain signed (b ∷ w ++ text) ≡ t ∷ tokens plain signed text
+run_tokens : (profile : Profile) (signed : Bool) (b : ℕ) (w text : List ℕ) (t : Token) → list_all is_word_byte (b ∷ w) ≡ true → EndsRun text
+    → read_token (run_token (b ∷ w)) text ≡ (t, text) → tokens profile signed (b ∷ w ++ text) ≡ t ∷ tokens profile signed text
 unfolding first_token
-run_tokens signed b w text t all ends good =
+run_tokens profile signed b w text t all ends good =
     let word = (and_parts (is_word_byte b) (list_all is_word_byte w) all).0 in
-    first_is signed b (w ++ text) t text (word_is_not_white b word)
+    first_is profile signed b (w ++ text) t text (word_is_not_white b word)
     (cond-false (is_quote b) _ _ (word_is_no_quote b word) ∙ cond-true (is_word_byte b) _ _ word ∙ run_read run_token (b ∷ w) text all ends ∙ good)
 
 letter_is_no_digit : (b : ℕ) → is_letter b ≡ true → is_digit b ≡ false
 letter_is_no_digit b letter = grind (arith, nat_tests)
 
 -- a word
-pub word_tokens : (signed : Bool) (w : List ℕ) (text : List ℕ) {ts : List Token} → starts_with_letter w ≡ true → list_all is_word_byte w ≡ true → EndsRun text
-    → tokens plain signed text ≡ ts → tokens plain signed (w ++ text) ≡ Word w ∷ ts
-word_tokens signed [] text letter all ends go = absurd (cc)
-word_tokens signed (b ∷ w) text letter all ends go =
-    run_tokens signed b w text (Word (b ∷ w)) all ends (rw (letter_is_no_digit b letter)) ∙ ap (λ us. Word (b ∷ w) ∷ us) go
+pub word_tokens : (profile : Profile) (signed : Bool) (w : List ℕ) (text : List ℕ) {ts : List Token} → starts_with_letter w ≡ true → list_all is_word_byte w ≡ true → EndsRun text
+    → tokens profile signed text ≡ ts → tokens profile signed (w ++ text) ≡ Word w ∷ ts
+word_tokens profile signed [] text letter all ends go = absurd (cc)
+word_tokens profile signed (b ∷ w) text letter all ends go =
+    run_tokens profile signed b w text (Word (b ∷ w)) all ends (rw (letter_is_no_digit b letter)) ∙ ap (λ us. Word (b ∷ w) ∷ us) go
 
 -- numbers
 
@@ -212,25 +213,25 @@ digits_token (d ∷ ds) n digits e small =
     cond-true (is_digit d) _ _ (and_parts (is_digit d) (list_all is_digit ds) digits.0).0
     ∙ ap positive e ∙ cond-true (nat_lt n (2 ^ 63)) _ _ (lt-ltb n (2 ^ 63) small)
 
-digits_tokens : (signed : Bool) (ds text : List ℕ) (n : ℕ) → IsDigits ds → number_of ds ≡ Some n → n < 2 ^ 63 → EndsRun text
-    → tokens plain signed (ds ++ text) ≡ Number (pos n) ∷ tokens plain signed text
-digits_tokens signed [] text n digits e small ends = absurd (omega (arith, digits.1))
-digits_tokens signed (d ∷ ds) text n digits e small ends =
-    run_tokens signed d ds text (Number (pos n)) (digits_are_words (d ∷ ds) digits.0) ends
+digits_tokens : (profile : Profile) (signed : Bool) (ds text : List ℕ) (n : ℕ) → IsDigits ds → number_of ds ≡ Some n → n < 2 ^ 63 → EndsRun text
+    → tokens profile signed (ds ++ text) ≡ Number (pos n) ∷ tokens profile signed text
+digits_tokens profile signed [] text n digits e small ends = absurd (omega (arith, digits.1))
+digits_tokens profile signed (d ∷ ds) text n digits e small ends =
+    run_tokens profile signed d ds text (Number (pos n)) (digits_are_words (d ∷ ds) digits.0) ends
     (ap (λ t. read_token t text) (digits_token (d ∷ ds) n digits e small))
 
 -- a natural number
-pub number_tokens : (signed : Bool) (n : ℕ) (text : List ℕ) {ts : List Token} → n < 2 ^ 63 → EndsRun text
-    → tokens plain signed text ≡ ts → tokens plain signed (decimal n ++ text) ≡ Number (pos n) ∷ ts
-number_tokens signed n text small ends go =
-    digits_tokens signed (decimal n) text n (decimal_digits n (omega arith)) (number_of-decimal n (omega arith)) small ends ∙ ap (λ us. Number (pos n) ∷ us) go
+pub number_tokens : (profile : Profile) (signed : Bool) (n : ℕ) (text : List ℕ) {ts : List Token} → n < 2 ^ 63 → EndsRun text
+    → tokens profile signed text ≡ ts → tokens profile signed (decimal n ++ text) ≡ Number (pos n) ∷ ts
+number_tokens profile signed n text small ends go =
+    digits_tokens profile signed (decimal n) text n (decimal_digits n (omega arith)) (number_of-decimal n (omega arith)) small ends ∙ ap (λ us. Number (pos n) ∷ us) go
 
 -- digits behind a `-`
-negative_read : (ds text : List ℕ) (n : ℕ) → IsDigits ds → number_of ds ≡ Some (suc n) → n < 2 ^ 63 → EndsRun text
-    → first_token plain true 45 (ds ++ text) ≡ (Number (negsuc n), text)
+negative_read : (profile : Profile) (ds text : List ℕ) (n : ℕ) → IsDigits ds → number_of ds ≡ Some (suc n) → n < 2 ^ 63 → EndsRun text
+    → first_token profile true 45 (ds ++ text) ≡ (Number (negsuc n), text)
 unfolding first_token
-negative_read [] text n digits e small ends = absurd (omega (arith, digits.1))
-negative_read (d ∷ ds) text n digits e small ends =
+negative_read profile [] text n digits e small ends = absurd (omega (arith, digits.1))
+negative_read profile (d ∷ ds) text n digits e small ends =
     cond-true (is_digit d) _ _ (and_parts (is_digit d) (list_all is_digit ds) digits.0).0
     ∙ run_read (λ w. negative (number_of w)) (d ∷ ds) text (digits_are_words (d ∷ ds) digits.0) ends
     ∙ ap (λ m. read_token (negative m) text) e
@@ -240,11 +241,11 @@ negative_read (d ∷ ds) text n digits e small ends =
     in_range = and_from _ _ (lt-ltb 0 (suc n) (omega arith)) (le-leb (suc n) (2 ^ 63) small)
 
 -- a negative number, where numbers may be signed
-pub negative_tokens : (n : ℕ) (text : List ℕ) {ts : List Token} → n < 2 ^ 63 → EndsRun text
-    → tokens plain true text ≡ ts → tokens plain true (45 ∷ decimal (suc n) ++ text) ≡ Number (negsuc n) ∷ ts
-negative_tokens n text small ends go =
-    first_is true 45 (decimal (suc n) ++ text) (Number (negsuc n)) text refl
-    (negative_read (decimal (suc n)) text n (decimal_digits (suc n) (omega arith)) (number_of-decimal (suc n) (omega arith)) small ends)
+pub negative_tokens : (profile : Profile) (n : ℕ) (text : List ℕ) {ts : List Token} → n < 2 ^ 63 → EndsRun text
+    → tokens profile true text ≡ ts → tokens profile true (45 ∷ decimal (suc n) ++ text) ≡ Number (negsuc n) ∷ ts
+negative_tokens profile n text small ends go =
+    first_is profile true 45 (decimal (suc n) ++ text) (Number (negsuc n)) text refl
+    (negative_read profile (decimal (suc n)) text n (decimal_digits (suc n) (omega arith)) (number_of-decimal (suc n) (omega arith)) small ends)
     ∙ ap (λ us. Number (negsuc n) ∷ us) go
 
 -- quoted texts
@@ -290,11 +291,11 @@ quoted_text (b ∷ t) text all =
     ∙ quoted_byte (flat_map escaped t ++ 39 ∷ text) (t, text) (quoted_text t text both.1) b both.0
 
 -- a quoted text
-pub text_tokens : (signed : Bool) (t : List ℕ) (text : List ℕ) {ts : List Token} → is_text t ≡ true
-    → tokens plain signed text ≡ ts → tokens plain signed (39 ∷ flat_map escaped t ++ 39 ∷ text) ≡ Text t ∷ ts
+pub text_tokens : (profile : Profile) (signed : Bool) (t : List ℕ) (text : List ℕ) {ts : List Token} → is_text_within (text_limit profile) t ≡ true
+    → tokens profile signed text ≡ ts → tokens profile signed (39 ∷ flat_map escaped t ++ 39 ∷ text) ≡ Text t ∷ ts
 unfolding first_token
-text_tokens signed t text fine go =
+text_tokens profile signed t text fine go =
     let all = (and_parts _ (list_all is_text_byte t) fine).1 in
-    first_is signed 39 (flat_map escaped t ++ 39 ∷ text) (Text t) text refl
-    (ap (read_quoted plain) (quoted_text t text all) ∙ ap (λ (c : Bool). if c then (Text t, text) else bad) fine)
+    first_is profile signed 39 (flat_map escaped t ++ 39 ∷ text) (Text t) text refl
+    (ap (read_quoted profile) (quoted_text t text all) ∙ ap (λ (c : Bool). if c then (Text t, text) else bad) fine)
     ∙ ap (λ us. Text t ∷ us) go

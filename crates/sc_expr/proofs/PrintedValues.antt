@@ -1,38 +1,24 @@
 -- What is printed of a value is read as the value.
-use Rattle.std.proofs.Common.{◌≡◌, ℕ, zero, suc, ◌<◌, ◌-◌, ◌^◌, Bool, true, false, not, ◌&&◌, Option, Some, List, [], ◌∷◌, ◌++◌, map, length, pos, negsuc, codes, refl, sym, ap, subst, ap₂, ◌∙◌, arith, decimal, nat_le, IsTrue, slice_index, flat_map, append_assoc}
-use Rattle.std.specs.Prelude.{option_map, option_and_then}
+use Rattle.std.proofs.Common.{◌≡◌, ℕ, zero, suc, ◌+◌, ◌<◌, ◌≤◌, ◌-◌, ◌^◌, Bool, true, false, not, ◌&&◌, List, [], ◌∷◌, ◌++◌, map, length, ℤ, pos, negsuc, codes, refl, sym, ap, subst, ◌∙◌, arith, decimal, nat_lt, IsTrue, Some, None, slice_index, flat_map, append_assoc, append-nil}
 use Rattle.std.specs.List.{list_all, AllByRecursion}
-use Rattle.std.proofs.lemmas.Bool.{and_parts, and_from, not_from_false, ltb-true, cond-true}
+use Rattle.std.proofs.lemmas.Bool.{and_parts, and_from, not_from_false, ltb-true, lt-ltb, cond-true, leb-true}
 use Rattle.std.proofs.lemmas.List.{get_or_push, length_push}
-use Rattle.sc_types.specs.Profiles.{plain}
 use Rattle.sc_types.specs.Descriptors.{is_white_space}
-use Rattle.sc_base.specs.Text.{is_text, is_int}
 use Rattle.sc_types.specs.Tokens.{is_word_byte, tokens}
-use Rattle.sc_types.specs.Values.{is_item, fits, escaped, truth_text, joined, value_step, value_text, item_of, further_items, items_of, listed, value_of, is_trimmed, literal_value}
+use Rattle.sc_types.specs.Values.{Open, behind, deepest_of, depth, due, escaped, fits, has_fit_parts, is_fit_item, is_trimmed, is_truth, joined, literal_value, truth_text, value_step, value_text}
+use Rattle.sc_types.specs.declared.profile.Profile.TheVariants.{Nested}
 use Rattle.sc_types.specs.declared.token.Mark.TheVariants.{OpenSquare, CloseSquare, Comma}
 use Rattle.sc_types.specs.declared.token.Token.{Token}
 use Rattle.sc_types.specs.declared.token.Token.TheVariants.{Word, Number, Text as Quoted, Mark as Sign}
-use Rattle.sc_types.specs.declared.value.Value.{Value, out-Value}
-use Rattle.sc_types.specs.declared.value.Value.TheFolds.{fold-roll-Value, map-Value}
+use Rattle.sc_types.specs.declared.value.Value.{Value}
+use Rattle.sc_types.specs.declared.value.Value.TheFolds.{fold-roll-Value, ind-Value, map-Value}
 use Rattle.sc_types.specs.declared.value.Value.TheOpen.{Value-F}
 use Rattle.sc_types.specs.declared.value.Value.TheVariants.{Bool as Truth, Int, Text, List as Listed, rolls-Bool, rolls-Int, rolls-Text, rolls-List}
-use Rattle.sc_types.specs.declared.value.Value.TheViews.{roll-Value, roll-out-Value}
+use Rattle.sc_types.specs.declared.value.Value.TheViews.{roll-Value}
+use Rattle.sc_types.proofs.ValueLemmas.{depth-List, parts-Int, parts-List, parts-Text}
 use Rattle.sc_expr.proofs.LexingLemmas.{tokens_none}
+use Rattle.sc_expr.proofs.LiteralLemmas.{literal_read}
 use Rattle.sc_expr.proofs.PrintedTokens.{ReadsAs, reads_alone, mark_tokens, word_tokens, number_tokens, negative_tokens, text_tokens, decimal_digits, digits_are_words, word_is_not_white}
-
--- `is_item` and `fits`, of a layer
-
-abbrev item_fits : Value-F Value → Bool
-item_fits (Value-F.Bool b) = false
-item_fits (Value-F.Int n) = is_int n
-item_fits (Value-F.Text text) = is_text text
-item_fits (Value-F.List items) = false
-
-abbrev value_fits : Value-F Value → Bool
-value_fits (Value-F.Bool b) = true
-value_fits (Value-F.Int n) = is_int n
-value_fits (Value-F.Text text) = is_text text
-value_fits (Value-F.List items) = nat_le (length items) 256 && list_all is_item items
 
 -- no white space stands round what is printed
 
@@ -59,129 +45,143 @@ words_are_dark (b ∷ w) all =
 decimal_dark : (n : ℕ) → n < 2 ^ 64 → list_all dark (decimal n) ≡ true
 decimal_dark n small = words_are_dark (decimal n) (digits_are_words (decimal n) (decimal_digits n small).0)
 
--- numbers and texts, which stand alone or in a list
+-- values
 
--- what is printed of an item, read as a token that stands for it
-record PrintedItem (v : Value) : Type 0 where
-  token : Token
-  read : ReadsAs true (value_text v) (token ∷ [])
-  is : item_of token ≡ Some v
-  alone : value_of (token ∷ []) ≡ item_of token
-  first : (ts : List Token) → items_of (token ∷ ts) ≡ option_and_then (λ w. option_map (λ ws. w ∷ ws) (further_items ts)) (item_of token)
+-- what is printed of a value, read as tokens that write it
+record Printed (v : Value) : Type 0 where
+  tokens_of : List Token
+  read : ReadsAs Nested true (value_text v) tokens_of
+  is_due : (lists : Open) (ts : List Token) → length lists + depth v ≤ 8 → due lists (tokens_of ++ ts) ≡ behind v lists ts
   trimmed : is_trimmed (value_text v) ≡ true
 
 text_at : (x : Value-F Value) → value_text (roll-Value x) ≡ value_step (map-Value Value (List ℕ) value_text x)
 unfolding value_text
 text_at x = fold-roll-Value (List ℕ) value_step x
 
--- an item from what is printed of it
-item_by : (x : Value-F Value) (v : Value) → roll-Value x ≡ v → (t : Token)
-    → ReadsAs true (value_step (map-Value Value (List ℕ) value_text x)) (t ∷ [])
-    → item_of t ≡ Some v → value_of (t ∷ []) ≡ item_of t
-    → ((ts : List Token) → items_of (t ∷ ts) ≡ option_and_then (λ w. option_map (λ ws. w ∷ ws) (further_items ts)) (item_of t))
-    → is_trimmed (value_step (map-Value Value (List ℕ) value_text x)) ≡ true → PrintedItem (roll-Value x)
-item_by x v same t read is alone first trimmed = record {
-  token = t;
-  read = subst (λ text. ReadsAs true text (t ∷ [])) (sym (text_at x)) read;
-  is = is ∙ ap Some (sym same);
-  alone = alone;
-  first = first;
-  trimmed = ap is_trimmed (text_at x) ∙ trimmed;
-}
+-- a value from what is printed of it
+printed_by : (x : Value-F Value) (v : Value) → roll-Value x ≡ v → (ts : List Token)
+    → ReadsAs Nested true (value_step (map-Value Value (List ℕ) value_text x)) ts
+    → ((lists : Open) (us : List Token) → length lists + depth v ≤ 8 → due lists (ts ++ us) ≡ behind v lists us)
+    → is_trimmed (value_step (map-Value Value (List ℕ) value_text x)) ≡ true → Printed v
+printed_by x v same ts read is_due trimmed =
+    let text : value_step (map-Value Value (List ℕ) value_text x) ≡ value_text v = sym (text_at x) ∙ ap value_text same in
+    record {
+      tokens_of = ts;
+      read = subst (λ t. ReadsAs Nested true t ts) text read;
+      is_due = is_due;
+      trimmed = ap is_trimmed (sym text) ∙ trimmed;
+    }
 
-item_layer : (x : Value-F Value) → item_fits x ≡ true → PrintedItem (roll-Value x)
-item_layer (Value-F.Bool b) fine = absurd (cc)
-item_layer (Value-F.Int (pos n)) fine =
-    let small = ltb-true n (2 ^ 63) fine in
-    item_by (Value-F.Int (pos n)) (Int (pos n)) (rolls-Int (pos n)) (Number (pos n))
-    (record { before = λ rest ends go. number_tokens true n rest small ends go }) refl refl (λ ts. refl)
-    (dark_trimmed (decimal n) (decimal_dark n (omega arith)))
-item_layer (Value-F.Int (negsuc n)) fine =
-    let small = ltb-true n (2 ^ 63) fine in
-    item_by (Value-F.Int (negsuc n)) (Int (negsuc n)) (rolls-Int (negsuc n)) (Number (negsuc n))
-    (record { before = λ rest ends go. negative_tokens n rest small ends go }) refl refl (λ ts. refl)
-    (dark_trimmed (45 ∷ decimal (suc n)) (decimal_dark (suc n) (omega arith)))
-item_layer (Value-F.Text text) fine =
-    item_by (Value-F.Text text) (Text text) (rolls-Text text) (Quoted text)
-    (record { before = λ rest ends go. simp append_assoc (text_tokens true text rest fine go) }) refl refl (λ ts. refl)
-    (last_dark (39 ∷ flat_map escaped text) 39 refl)
-item_layer (Value-F.List items) fine = absurd (cc)
+abbrev IsPrinted : Value → Type 0
+IsPrinted v = has_fit_parts v ≡ true → Printed v
 
-printed_item : (v : Value) → is_item v ≡ true → PrintedItem v
-printed_item v fine = subst PrintedItem (roll-out-Value v) (item_layer (out-Value v) fine)
+printed_truth : (b : Bool) → Printed (Truth b)
+unfolding due
+printed_truth true = printed_by (Value-F.Bool true) (Truth true) (rolls-Bool true) (Word (codes "true") ∷ [])
+    (record { before = λ rest ends go. word_tokens Nested true (codes "true") rest refl refl ends go })
+    (λ lists us deep. refl) refl
+printed_truth false = printed_by (Value-F.Bool false) (Truth false) (rolls-Bool false) (Word (codes "false") ∷ [])
+    (record { before = λ rest ends go. word_tokens Nested true (codes "false") rest refl refl ends go })
+    (λ lists us deep. refl) refl
+
+printed_int : (n : ℤ) → IsPrinted (Int n)
+unfolding due
+printed_int (pos n) fine =
+    let small = ltb-true n (2 ^ 63) (sym (parts-Int (pos n)) ∙ fine) in
+    printed_by (Value-F.Int (pos n)) (Int (pos n)) (rolls-Int (pos n)) (Number (pos n) ∷ [])
+    (record { before = λ rest ends go. number_tokens Nested true n rest small ends go })
+    (λ lists us deep. refl) (dark_trimmed (decimal n) (decimal_dark n (omega arith)))
+printed_int (negsuc n) fine =
+    let small = ltb-true n (2 ^ 63) (sym (parts-Int (negsuc n)) ∙ fine) in
+    printed_by (Value-F.Int (negsuc n)) (Int (negsuc n)) (rolls-Int (negsuc n)) (Number (negsuc n) ∷ [])
+    (record { before = λ rest ends go. negative_tokens Nested n rest small ends go })
+    (λ lists us deep. refl) (dark_trimmed (45 ∷ decimal (suc n)) (decimal_dark (suc n) (omega arith)))
+
+printed_text : (text : List ℕ) → IsPrinted (Text text)
+unfolding due
+printed_text text fine = printed_by (Value-F.Text text) (Text text) (rolls-Text text) (Quoted text ∷ [])
+    (record { before = λ rest ends go. simp append_assoc (text_tokens Nested true text rest (sym (parts-Text text) ∙ fine) go) })
+    (λ lists us deep. refl) (last_dark (39 ∷ flat_map escaped text) 39 refl)
 
 -- lists
 
-each_item : (vs : List Value) → list_all is_item vs ≡ true → AllByRecursion PrintedItem vs
-each_item [] fine = tt
-each_item (v ∷ vs) fine =
-    let both = and_parts (is_item v) (list_all is_item vs) fine in (printed_item v both.0, each_item vs both.1)
+abbrev Known : Type 0
+Known = (v : Value) × IsPrinted v
 
-items_cons : (v : Value) (vs : List Value) (o : Option Value) (os : Option (List Value)) → o ≡ Some v → os ≡ Some vs
-    → option_and_then (λ w. option_map (λ ws. w ∷ ws) os) o ≡ Some (v ∷ vs)
-items_cons v vs o os e f = ap₂ (λ p q. option_and_then (λ w. option_map (λ ws. w ∷ ws) q) p) e f
+each_printed : (items : List Known) → list_all is_fit_item (map (λ (v : Known). v.0) items) ≡ true
+    → AllByRecursion Printed (map (λ (v : Known). v.0) items)
+each_printed [] fine = tt
+each_printed (v ∷ vs) fine =
+    let both = and_parts (is_fit_item v.0) (list_all is_fit_item (map (λ (w : Known). w.0) vs)) fine in
+    (v.1 (and_parts (not (is_truth v.0)) (has_fit_parts v.0) both.0).1, each_printed vs both.1)
 
 -- the items of a list, up to the bracket that closes it
-record PrintedItems (v : Value) (vs : List Value) (first : Token) : Type 0 where
-  later : List Token
-  read : tokens plain true (joined (map value_text (v ∷ vs)) ++ 93 ∷ []) ≡ first ∷ later
-  is : further_items later ≡ Some vs
+record PrintedItems (v : Value) (vs : List Value) : Type 0 where
+  tokens_of : List Token
+  read : ReadsAs Nested true (joined (map value_text (v ∷ vs))) tokens_of
+  is_due : (items : List Value) (lists : Open) (ts : List Token) → suc (length lists) + deepest_of (v ∷ vs) ≤ 8
+      → due (items ∷ lists) (tokens_of ++ Sign CloseSquare ∷ ts) ≡ behind (Listed (items ++ v ∷ vs)) lists ts
 
-printed_items : (v : Value) (vs : List Value) (p : PrintedItem v) → AllByRecursion PrintedItem vs → PrintedItems v vs p.token
+printed_items : (v : Value) (vs : List Value) → Printed v → AllByRecursion Printed vs → PrintedItems v vs
+unfolding due
 printed_items v [] p ps = record {
-  later = Sign CloseSquare ∷ [];
-  read = p.read.before (93 ∷ []) refl (mark_tokens true CloseSquare [] refl (tokens_none true [] refl));
-  is = refl;
+  tokens_of = p.tokens_of;
+  read = p.read;
+  is_due = λ items lists ts deep. p.is_due (items ∷ lists) (Sign CloseSquare ∷ ts) (omega arith);
 }
 printed_items v (w ∷ vs) p ps =
-    let items = printed_items w vs ps.0 ps.1 in
+    let later = printed_items w vs ps.0 ps.1 in
     record {
-      later = Sign Comma ∷ ps.0.token ∷ items.later;
-      read = simp append_assoc (p.read.before _ refl (mark_tokens true Comma _ refl items.read));
-      is = items_cons w vs (item_of ps.0.token) (further_items items.later) ps.0.is items.is;
+      tokens_of = p.tokens_of ++ Sign Comma ∷ later.tokens_of;
+      read = record { before = λ rest ends go. simp append_assoc (p.read.before _ refl (mark_tokens Nested true Comma _ refl (later.read.before rest ends go))) };
+      is_due = λ items lists ts deep.
+          ap (due (items ∷ lists)) (append_assoc p.tokens_of (Sign Comma ∷ later.tokens_of) (Sign CloseSquare ∷ ts))
+          ∙ p.is_due (items ∷ lists) (Sign Comma ∷ (later.tokens_of ++ Sign CloseSquare ∷ ts)) (omega arith)
+          ∙ later.is_due (items ++ v ∷ []) lists ts (omega arith)
+          ∙ ap (λ vs. behind (Listed vs) lists ts) (append_assoc items (v ∷ []) (w ∷ vs));
     }
+
+-- a bracket opens a list where one more may be open
+opens : (lists : Open) (ts : List Token) → length lists < 8 → due lists (Sign OpenSquare ∷ ts) ≡ due ([] ∷ lists) ts
+unfolding due
+opens lists ts h = cond-true (nat_lt (length lists) 8) (due ([] ∷ lists) ts) None (lt-ltb (length lists) 8 h)
+
+printed_list : (vs : List Value) → AllByRecursion Printed vs → Printed (Listed vs)
+unfolding due
+printed_list [] ps = printed_by (Value-F.List []) (Listed []) (rolls-List []) (Sign OpenSquare ∷ Sign CloseSquare ∷ [])
+    (record { before = λ rest ends go. mark_tokens Nested true OpenSquare _ refl (mark_tokens Nested true CloseSquare rest refl go) })
+    (λ lists us deep. opens lists (Sign CloseSquare ∷ us) (omega (arith, depth-List []))) refl
+printed_list (v ∷ vs) ps =
+    let items = printed_items v vs ps.0 ps.1 in
+    let inside = joined (map value_text (v ∷ vs)) in
+    printed_by (Value-F.List (v ∷ vs)) (Listed (v ∷ vs)) (rolls-List (v ∷ vs))
+    (Sign OpenSquare ∷ items.tokens_of ++ Sign CloseSquare ∷ [])
+    (record { before = λ rest ends go. simp append_assoc (mark_tokens Nested true OpenSquare _ refl (items.read.before _ refl (mark_tokens Nested true CloseSquare rest refl go))) })
+    (λ lists us deep.
+    opens lists ((items.tokens_of ++ Sign CloseSquare ∷ []) ++ us) (omega (arith, depth-List (v ∷ vs)))
+    ∙ ap (due ([] ∷ lists)) (append_assoc items.tokens_of (Sign CloseSquare ∷ []) us)
+    ∙ items.is_due [] lists us (omega (arith, depth-List (v ∷ vs))))
+    (and_from _ _ refl (last_dark (91 ∷ inside) 93 refl))
 
 -- every value
 
--- a text without white space round it is read by its tokens
-literal_by : (text : List ℕ) (v : Value) (ts : List Token) → is_trimmed text ≡ true → tokens plain true text ≡ ts → value_of ts ≡ Some v → literal_value text ≡ Some v
-unfolding literal_value
-literal_by text v ts trimmed read is = cond-true (is_trimmed text) _ _ trimmed ∙ ap value_of read ∙ is
+layer_printed : (x : Value-F Known) → IsPrinted (roll-Value (map-Value Known Value (λ v. v.0) x))
+layer_printed (Value-F.Bool b) = subst IsPrinted (sym (rolls-Bool b)) (λ fine. printed_truth b)
+layer_printed (Value-F.Int n) = subst IsPrinted (sym (rolls-Int n)) (printed_int n)
+layer_printed (Value-F.Text text) = subst IsPrinted (sym (rolls-Text text)) (printed_text text)
+layer_printed (Value-F.List items) =
+    let vs = map (λ (v : Known). v.0) items in
+    subst IsPrinted (sym (rolls-List vs))
+    (λ fine. printed_list vs (each_printed items (and_parts _ _ (sym (parts-List vs) ∙ fine)).1))
 
-printed_alone : (v : Value) → PrintedItem v → literal_value (value_text v) ≡ Some v
-printed_alone v p = literal_by (value_text v) v (p.token ∷ []) p.trimmed (reads_alone p.read) (p.alone ∙ p.is)
-
-printed_by : (x : Value-F Value) (v : Value) → roll-Value x ≡ v → literal_value (value_step (map-Value Value (List ℕ) value_text x)) ≡ Some v
-    → literal_value (value_text (roll-Value x)) ≡ Some (roll-Value x)
-printed_by x v same is = ap literal_value (text_at x) ∙ is ∙ ap Some (sym same)
-
-printed_truth : (b : Bool) → literal_value (truth_text b) ≡ Some (Truth b)
-printed_truth true = literal_by (codes "true") (Truth true) (Word (codes "true") ∷ []) refl (word_tokens true (codes "true") [] refl refl tt (tokens_none true [] refl)) refl
-printed_truth false = literal_by (codes "false") (Truth false) (Word (codes "false") ∷ []) refl (word_tokens true (codes "false") [] refl refl tt (tokens_none true [] refl)) refl
-
-printed_list : (vs : List Value) → nat_le (length vs) 256 ≡ true → AllByRecursion PrintedItem vs
-    → literal_value (codes "[" ++ joined (map value_text vs) ++ codes "]") ≡ Some (Listed vs)
-printed_list [] short ps =
-    literal_by (codes "[]") (Listed []) (Sign OpenSquare ∷ Sign CloseSquare ∷ []) refl
-    (mark_tokens true OpenSquare (93 ∷ []) refl (mark_tokens true CloseSquare [] refl (tokens_none true [] refl))) refl
-printed_list (v ∷ vs) short ps =
-    let p = ps.0 in
-    let items = printed_items v vs p ps.1 in
-    let inside = joined (map value_text (v ∷ vs)) in
-    literal_by (91 ∷ inside ++ 93 ∷ []) (Listed (v ∷ vs)) (Sign OpenSquare ∷ p.token ∷ items.later)
-    (and_from _ _ refl (last_dark (91 ∷ inside) 93 refl))
-    (mark_tokens true OpenSquare _ refl items.read)
-    (ap (option_and_then listed) (p.first items.later ∙ items_cons v vs (item_of p.token) (further_items items.later) p.is items.is)
-    ∙ cond-true (nat_le (length (v ∷ vs)) 256) _ _ short)
-
-value_layer : (x : Value-F Value) → value_fits x ≡ true → literal_value (value_text (roll-Value x)) ≡ Some (roll-Value x)
-value_layer (Value-F.Bool b) fine = printed_by (Value-F.Bool b) (Truth b) (rolls-Bool b) (printed_truth b)
-value_layer (Value-F.Int n) fine = printed_alone (roll-Value (Value-F.Int n)) (item_layer (Value-F.Int n) fine)
-value_layer (Value-F.Text text) fine = printed_alone (roll-Value (Value-F.Text text)) (item_layer (Value-F.Text text) fine)
-value_layer (Value-F.List items) fine =
-    let both = and_parts (nat_le (length items) 256) (list_all is_item items) fine in
-    printed_by (Value-F.List items) (Listed items) (rolls-List items) (printed_list items both.0 (each_item items both.1))
+every_printed : (v : Value) → IsPrinted v
+every_printed = ind-Value IsPrinted (λ x y is. subst (λ z. IsPrinted (roll-Value z)) is (layer_printed y))
 
 -- what is printed of a value is read as the value
 pub printed_value : (v : Value) → IsTrue (fits v) → literal_value (value_text v) ≡ Some v
-printed_value v fine = subst (λ w. literal_value (value_text w) ≡ Some w) (roll-out-Value v) (value_layer (out-Value v) fine)
+unfolding due
+printed_value v fine =
+    let p = every_printed v (and_parts _ _ (and_parts _ _ fine).0).0 in
+    let shallow = leb-true (depth v) 8 (and_parts _ _ (and_parts _ _ fine).0).1 in
+    literal_read (value_text v) v p.trimmed
+    (ap (due []) (reads_alone Nested p.read ∙ sym (append-nil p.tokens_of)) ∙ p.is_due [] [] (omega (arith, shallow))) fine

@@ -1,13 +1,12 @@
 ghost use Rattle.std.specs.Prelude.{◌≡◌, ◌<◌, ◌==◌, ◌&&◌, [], ◌∷◌, length, drop, slice_index, option_map, IfOk, OnErr, MatchOption};
 ghost use Rattle.std.specs.List.{take_while, prefix_len};
-ghost use Rattle.sc_types.specs.Profiles.{plain};
 ghost use Rattle.sc_types.specs.Descriptors.{is_white_space};
 ghost use Rattle.sc_base.specs.Text.{is_digit};
 ghost use Rattle.sc_types.specs.Tokens.{tokens, op_text, mark_text, op_at, mark_at, bad, read_sign, is_word_byte, run_token, read_token, read_run, read_negative, escape, is_quote, is_plain_byte, quoted, read_quoted, first_token, without_white};
 
 use crate::number::{negative, positive};
-use sc_base::{Bytes, NoMemory, is_text};
-use sc_types::{Mark, Op, Token};
+use sc_base::{Bytes, NoMemory, is_text_within};
+use sc_types::{Mark, Op, Profile, Token};
 use std::alloc::Global;
 use std::marker::Model;
 
@@ -16,25 +15,29 @@ use std::marker::Model;
 #[derive(Drop)]
 pub(crate) struct Lexer<'a> {
     rest: &'a [u8],
+    profile: Profile,
     signed: bool,
 }
 
 impl<'a> Model for Lexer<'a> {
     ghost use Rattle.std.specs.Prelude.{List};
-    ghost use Rattle.sc_types.specs.Profiles.{plain};
-    ghost use Rattle.sc_types.specs.Tokens.{tokens};
+        ghost use Rattle.sc_types.specs.Tokens.{tokens};
     ghost use Rattle.sc_types.specs.declared.token.Token.{Token};
 
     ghost Value = { List Token };
 
-    ghost view = { λ l. tokens plain l.signed l.rest.now };
+    ghost view = { λ l. tokens l.profile l.signed l.rest.now };
 }
 
 impl<'a> Lexer<'a> {
-    pub(crate) fn new(text: &'a [u8], signed: bool) -> Lexer<'a>
-        ensures { result ≡ tokens plain signed text.now }
+    pub(crate) fn new(text: &'a [u8], profile: Profile, signed: bool) -> Lexer<'a>
+        ensures { result ≡ tokens profile signed text.now }
     {
-        Lexer { rest: text, signed }
+        Lexer {
+            rest: text,
+            profile,
+            signed,
+        }
     }
 
     /// The next token; `None` at the end. Behind a bad token nothing is read.
@@ -48,7 +51,7 @@ impl<'a> Lexer<'a> {
             self.rest = text;
             return Ok(None);
         }
-        let (token, behind) = first_token(alloc, text, self.signed)?;
+        let (token, behind) = first_token(alloc, text, self.profile, self.signed)?;
         self.rest = behind;
         Ok(Some(token))
     }
@@ -104,15 +107,20 @@ fn read_token(token: Token, behind: &[u8]) -> (Token, &[u8])
 }
 
 /// The token at the front of a text that does not begin with white space, and what stands behind it.
-fn first_token(alloc: Global, text: &[u8], signed: bool) -> Result<(Token, &[u8]), NoMemory>
+fn first_token(
+    alloc: Global,
+    text: &[u8],
+    profile: Profile,
+    signed: bool,
+) -> Result<(Token, &[u8]), NoMemory>
     requires { 0 < length text.now }
     ensures { IfOk result (λ r. (r.0, r.1.now)
-        ≡ first_token plain signed (slice_index text.entry.now 0) (drop 1 text.entry.now)) }
+        ≡ first_token profile signed (slice_index text.entry.now 0) (drop 1 text.entry.now)) }
 {
     let first = text[0];
     let behind = &text[1..];
     if is_quote(first) {
-        return read_quoted(alloc, first, behind);
+        return read_quoted(alloc, profile, first, behind);
     }
     if is_word_byte(first) {
         return read_run(alloc, text);
@@ -199,11 +207,18 @@ fn read_sign(text: &[u8]) -> (Token, &[u8])
     bad()
 }
 
-fn read_quoted(alloc: Global, quote: u8, text: &[u8]) -> Result<(Token, &[u8]), NoMemory>
-    ensures { IfOk result (λ r. (r.0, r.1.now) ≡ read_quoted plain (quoted quote text.entry.now)) }
+fn read_quoted(
+    alloc: Global,
+    profile: Profile,
+    quote: u8,
+    text: &[u8],
+) -> Result<(Token, &[u8]), NoMemory>
+    ensures { IfOk result (λ r. (r.0, r.1.now) ≡ read_quoted profile (quoted quote text.entry.now)) }
 {
     match quoted(alloc, quote, text)? {
-        Some((content, behind)) if is_text(content.slice()) => Ok((Token::Text(content), behind)),
+        Some((content, behind)) if is_text_within(content.slice(), profile.text_limit()) => {
+            Ok((Token::Text(content), behind))
+        }
         _ => Ok(bad()),
     }
 }

@@ -1,15 +1,18 @@
-ghost use Rattle.std.specs.Prelude.{◌≡◌, ◌≢◌, [], ◌∷◌, ◌++◌, option_map, option_and_then, IsTrue, IfOk, OnOk};
-ghost use Rattle.sc_types.specs.Values.{fits, literal_value, is_trimmed, value_of, truth_of, item_of, items_of, further_items, listed, value_text, text_literal, truth_text, escaped};
-ghost use Rattle.sc_expr.specs.Literals.{single, is_open, is_close, first_item, separated, comma};
+ghost use Rattle.std.specs.Prelude.{◌≡◌, ◌≢◌, ◌≤◌, ◌+◌, suc, length, drop, Some, false, [], ◌∷◌, ◌++◌, IsTrue, IfOk, OnOk};
+ghost use Rattle.sc_types.specs.Values.{Open, behind, due, fits, literal_value, is_trimmed, single, truth_of, value_text, text_literal, truth_text, escaped};
+ghost use Rattle.sc_types.specs.declared.limits.TheConstants.{LIST_DEPTH_LIMIT};
+ghost use Rattle.sc_types.specs.declared.token.Mark.TheVariants.{OpenSquare};
+ghost use Rattle.sc_types.specs.declared.token.Token.TheVariants.{Mark as Sign};
+ghost use Rattle.sc_expr.specs.Literals.{Begins, BeginsNone, NoneNext, after_items, comma, is_close, is_open, separator};
 
 use crate::fault::ExprFault;
 use crate::lexer::{Lexer, is_white_space};
 use sc_base::{Bytes, NoMemory, Sequence, TextWriter};
-use sc_types::{ITEM_LIMIT, Mark, Token, Value};
+use sc_types::{LIST_DEPTH_LIMIT, Mark, Profile, Token, Value};
 use std::alloc::Global;
 
 /// Reads the literal of a value; `NotExpr` exactly where the text is none.
-#[tactic(auto, using(crate::proofs::LiteralLemmas::literal_trimmed, crate::proofs::LiteralLemmas::literal_untrimmed))]
+#[tactic(auto, using(crate::proofs::LiteralLemmas::literals))]
 pub fn read_value(alloc: Global, text: &[u8]) -> Result<Value, ExprFault>
     ensures ok { IfOk result (λ v. literal_value text.now ≡ Some v) }
     ensures refused { result ≡ Err ExprFault.NotExpr → literal_value text.now ≡ None }
@@ -17,8 +20,13 @@ pub fn read_value(alloc: Global, text: &[u8]) -> Result<Value, ExprFault>
     if !is_trimmed(text) {
         return Err(ExprFault::NotExpr);
     }
-    let mut lexer = Lexer::new(text, true);
-    value_of(alloc, &mut lexer)
+    let mut lexer = Lexer::new(text, Profile::Nested, true);
+    let value = whole_value(alloc, &mut lexer)?;
+    if value.fits() {
+        Ok(value)
+    } else {
+        Err(ExprFault::NotExpr)
+    }
 }
 
 fn is_trimmed(text: &[u8]) -> bool
@@ -31,21 +39,120 @@ fn is_trimmed(text: &[u8]) -> bool
 }
 
 /// The value of all tokens that are ahead.
-fn value_of(alloc: Global, lexer: &mut Lexer) -> Result<Value, ExprFault>
-    ensures ok { IfOk result (λ v. value_of lexer.old ≡ Some v) }
-    ensures refused { result ≡ Err ExprFault.NotExpr → value_of lexer.old ≡ None }
+fn whole_value(alloc: Global, lexer: &mut Lexer) -> Result<Value, ExprFault>
+    ensures ok { IfOk result (λ v. due [] lexer.old ≡ Some v) }
+    ensures refused { result ≡ Err ExprFault.NotExpr → due [] lexer.old ≡ None }
 {
-    let Some(token) = lexer.next(alloc)? else {
-        return Err(ExprFault::NotExpr);
-    };
-    if is_open(&token) {
-        return read_list(alloc, lexer);
-    }
-    let Some(value) = single(token) else {
-        return Err(ExprFault::NotExpr);
-    };
+    let value = next_value(alloc, lexer, LIST_DEPTH_LIMIT)?;
     end(alloc, lexer)?;
     Ok(value)
+}
+
+/// Whether nothing is ahead: else `NotExpr`.
+fn end(alloc: Global, lexer: &mut Lexer) -> Result<(), ExprFault>
+    ensures ok { OnOk result (lexer.old ≡ []) }
+    ensures refused { result ≡ Err ExprFault.NotExpr → lexer.old ≢ [] }
+{
+    match lexer.next(alloc)? {
+        None => Ok(()),
+        Some(_) => Err(ExprFault::NotExpr),
+    }
+}
+
+/// The value that comes next, where so many lists may yet be opened.
+#[cycle(literal)]
+fn next_value(alloc: Global, lexer: &mut Lexer, levels: u32) -> Result<Value, ExprFault>
+    ensures ok { IfOk result (λ v. Begins levels lexer.old v lexer.new) }
+    ensures refused { result ≡ Err ExprFault.NotExpr → NoneNext levels lexer.old }
+    ensures shorter { IfOk result (λ _. length lexer.new ≤ length lexer.old) }
+{
+    match lexer.next(alloc)? {
+        None => Err(ExprFault::NotExpr),
+        Some(first) => {
+            if is_close(&first) {
+                return Err(ExprFault::NotExpr);
+            }
+            value_from(alloc, lexer, first, levels)
+        }
+    }
+}
+
+/// The value that this token begins.
+#[cycle(literal)]
+fn value_from(
+    alloc: Global,
+    lexer: &mut Lexer,
+    first: Token,
+    levels: u32,
+) -> Result<Value, ExprFault>
+    requires { is_close first ≡ false }
+    ensures ok { IfOk result (λ v. Begins levels (first ∷ lexer.old) v lexer.new) }
+    ensures refused { result ≡ Err ExprFault.NotExpr → BeginsNone levels (first ∷ lexer.old) }
+    ensures shorter { IfOk result (λ _. length lexer.new ≤ length lexer.old) }
+{
+    if is_open(&first) {
+        return list_from(alloc, lexer, levels);
+    }
+    match single(first) {
+        Some(value) => Ok(value),
+        None => Err(ExprFault::NotExpr),
+    }
+}
+
+/// The list whose bracket has been read.
+#[cycle(literal)]
+fn list_from(alloc: Global, lexer: &mut Lexer, levels: u32) -> Result<Value, ExprFault>
+    ensures ok { IfOk result (λ v. Begins levels (Sign OpenSquare ∷ lexer.old) v lexer.new) }
+    ensures refused { result ≡ Err ExprFault.NotExpr → BeginsNone levels (Sign OpenSquare ∷ lexer.old) }
+    ensures shorter { IfOk result (λ _. length lexer.new ≤ length lexer.old) }
+{
+    if levels == 0 {
+        return Err(ExprFault::NotExpr);
+    }
+    match lexer.next(alloc)? {
+        None => Err(ExprFault::NotExpr),
+        Some(first) => {
+            if is_close(&first) {
+                return Ok(Value::List(Sequence::new(alloc)));
+            }
+            let first = value_from(alloc, lexer, first, levels - 1)?;
+            further_items(alloc, lexer, first, levels - 1)
+        }
+    }
+}
+
+/// The list whose first item has been read.
+#[cycle(literal)]
+fn further_items(
+    alloc: Global,
+    lexer: &mut Lexer,
+    first: Value,
+    levels: u32,
+) -> Result<Value, ExprFault>
+    ensures ok { IfOk result (λ v. (lists : Open) → suc (length lists) + levels ≡ LIST_DEPTH_LIMIT
+        → after_items (first ∷ []) lists lexer.old ≡ behind v lists lexer.new) }
+    ensures refused { result ≡ Err ExprFault.NotExpr → (lists : Open)
+        → suc (length lists) + levels ≡ LIST_DEPTH_LIMIT → after_items (first ∷ []) lists lexer.old ≡ None }
+    ensures shorter { IfOk result (λ _. length lexer.new ≤ length lexer.old) }
+{
+    let mut items = Sequence::new(alloc);
+    items.push(first)?;
+    while goes_on(alloc, lexer)? {
+        items.push(next_value(alloc, lexer, levels)?)?;
+    }
+    Ok(Value::List(items))
+}
+
+/// Whether a comma stands behind an item, or the bracket that ends the list.
+fn goes_on(alloc: Global, lexer: &mut Lexer) -> Result<bool, ExprFault>
+    ensures ok { IfOk result (λ more. (separator lexer.old ≡ Some more) × (lexer.new ≡ drop 1 lexer.old)) }
+    ensures refused { result ≡ Err ExprFault.NotExpr → separator lexer.old ≡ None }
+{
+    match lexer.next(alloc)? {
+        Some(Token::Mark(Mark::Comma)) => Ok(true),
+        Some(Token::Mark(Mark::CloseSquare)) => Ok(false),
+        _ => Err(ExprFault::NotExpr),
+    }
 }
 
 fn is_open(token: &Token) -> bool
@@ -66,17 +173,6 @@ fn is_close(token: &Token) -> bool
     }
 }
 
-/// Whether nothing is ahead: else `NotExpr`.
-fn end(alloc: Global, lexer: &mut Lexer) -> Result<(), ExprFault>
-    ensures ok { OnOk result (lexer.old ≡ []) }
-    ensures refused { result ≡ Err ExprFault.NotExpr → lexer.old ≢ [] }
-{
-    match lexer.next(alloc)? {
-        None => Ok(()),
-        Some(_) => Err(ExprFault::NotExpr),
-    }
-}
-
 fn truth_of(word: &[u8]) -> Option<Value>
     ensures { result ≡ truth_of word.now }
 {
@@ -89,109 +185,15 @@ fn truth_of(word: &[u8]) -> Option<Value>
     }
 }
 
-fn item_of(token: Token) -> Option<Value>
-    ensures { result ≡ item_of token }
-{
-    match token {
-        Token::Number(number) => Some(Value::Int(number)),
-        Token::Text(text) => Some(Value::Text(text)),
-        _ => None,
-    }
-}
-
 /// The value that a token alone writes.
 fn single(token: Token) -> Option<Value>
     ensures { result ≡ single token }
 {
     match token {
         Token::Word(word) => truth_of(word.slice()),
-        token => item_of(token),
-    }
-}
-
-fn listed(items: Sequence<Value>) -> Option<Value>
-    ensures { result ≡ listed items }
-{
-    if items.len() <= ITEM_LIMIT {
-        Some(Value::List(items))
-    } else {
-        None
-    }
-}
-
-/// The list whose bracket has been read.
-fn read_list(alloc: Global, lexer: &mut Lexer) -> Result<Value, ExprFault>
-    ensures ok { IfOk result (λ v. option_and_then listed (items_of lexer.old) ≡ Some v) }
-    ensures refused { result ≡ Err ExprFault.NotExpr → option_and_then listed (items_of lexer.old) ≡ None }
-{
-    match listed(items_of(alloc, lexer)?) {
-        Some(value) => Ok(value),
-        None => Err(ExprFault::NotExpr),
-    }
-}
-
-fn items_of(alloc: Global, lexer: &mut Lexer) -> Result<Sequence<Value>, ExprFault>
-    ensures ok { IfOk result (λ items. items_of lexer.old ≡ Some items) }
-    ensures refused { result ≡ Err ExprFault.NotExpr → items_of lexer.old ≡ None }
-{
-    let Some(token) = lexer.next(alloc)? else {
-        return Err(ExprFault::NotExpr);
-    };
-    if is_close(&token) {
-        end(alloc, lexer)?;
-        return Ok(Sequence::new(alloc));
-    }
-    let Some(first) = item_of(token) else {
-        return Err(ExprFault::NotExpr);
-    };
-    further_items(alloc, lexer, first)
-}
-
-/// The items behind the first, and the first before them.
-fn further_items(
-    alloc: Global,
-    lexer: &mut Lexer,
-    first: Value,
-) -> Result<Sequence<Value>, ExprFault>
-    ensures ok { IfOk result (λ items. option_map (λ vs. first ∷ vs) (further_items lexer.old) ≡ Some items) }
-    ensures refused { result ≡ Err ExprFault.NotExpr → further_items lexer.old ≡ None }
-{
-    let mut items = Sequence::new(alloc);
-    items.push(first)?;
-    while goes_on(alloc, lexer)? {
-        items.push(read_item(alloc, lexer)?)?;
-    }
-    Ok(items)
-}
-
-/// Whether a comma stands behind an item, or the bracket that ends the list and the text.
-fn goes_on(alloc: Global, lexer: &mut Lexer) -> Result<bool, ExprFault>
-    ensures ok { IfOk result (λ more. separated more lexer.old lexer.new) }
-    ensures refused { result ≡ Err ExprFault.NotExpr → further_items lexer.old ≡ None }
-{
-    match lexer.next(alloc)? {
-        Some(Token::Mark(mark)) => match mark {
-            Mark::Comma => Ok(true),
-            Mark::CloseSquare => {
-                end(alloc, lexer)?;
-                Ok(false)
-            }
-            _ => Err(ExprFault::NotExpr),
-        },
-        _ => Err(ExprFault::NotExpr),
-    }
-}
-
-fn read_item(alloc: Global, lexer: &mut Lexer) -> Result<Value, ExprFault>
-    ensures ok { IfOk result (λ v. first_item lexer.old ≡ Some (v, lexer.new)) }
-    ensures refused { result ≡ Err ExprFault.NotExpr → first_item lexer.old ≡ None }
-{
-    let Some(token) = lexer.next(alloc)? else {
-        return Err(ExprFault::NotExpr);
-    };
-    match item_of(token) {
-        Some(value) => Ok(value),
-        None => Err(ExprFault::NotExpr),
+        Token::Number(number) => Some(Value::Int(number)),
+        Token::Text(text) => Some(Value::Text(text)),
+        _ => None,
     }
 }
 

@@ -1,6 +1,5 @@
 ghost use Rattle.std.specs.Prelude.{◌≡◌, ◌≤◌, ◌==◌, true, false, codes, nat_lt, drop, length, [], ◌∷◌, ◌↔◌, IsTrue, IfOk, OnOk, MatchOption};
 ghost use Rattle.std.specs.Str.{bytes_eq};
-ghost use Rattle.sc_types.specs.Profiles.{plain};
 ghost use Rattle.sc_types.specs.Expressions.{IsExpr, IsExpression, IsReading, depth, looseness, repeats};
 ghost use Rattle.sc_base.specs.Text.{IsPlainName};
 ghost use Rattle.sc_types.specs.Tokens.{tokens};
@@ -14,8 +13,8 @@ use crate::fault::ExprFault;
 use crate::lexer::Lexer;
 use crate::sub::{Prefix, Sub};
 use sc_types::{
-    Bytes, EXPRESSION_LEVEL_LIMIT, EventField, Expr, Mark, NoMemory, Op, PlainName, Sequence,
-    Token, Unfit, is_plain_name,
+    Bytes, EXPRESSION_LEVEL_LIMIT, EventField, Expr, Mark, NoMemory, Op, PlainName, Profile,
+    Sequence, Token, Unfit, is_plain_name,
 };
 use std::alloc::Global;
 use std::marker::Model;
@@ -27,18 +26,18 @@ const CLOSEST: u8 = 2;
 /// The looseness of an expression that no bracket closes in.
 const LOOSEST: u8 = 6;
 
-/// Reads an expression; `NotExpr` exactly where the text spells none.
+/// Reads an expression; `NotExpr` exactly where the text spells none in the profile.
 #[tactic(auto, using(crate::proofs::Whole::wholes))]
-pub fn read_expr(alloc: Global, text: &[u8]) -> Result<Expr, ExprFault>
-    ensures ok { IfOk result (IsExpression plain text.now) }
-    ensures limits { IfOk result IsExpr }
-    ensures only { IfOk result (λ e. (other : Expr) → IsExpression plain text.now other → other ≡ e) }
-    ensures refused { result ≡ Err ExprFault.NotExpr → (e : Expr) → ¬ IsExpression plain text.now e }
-    ensures value { IfOk result (λ e. expr_of plain text.now ≡ Some e) }
-    ensures none { result ≡ Err ExprFault.NotExpr → expr_of plain text.now ≡ None }
+pub fn read_expr(alloc: Global, text: &[u8], profile: Profile) -> Result<Expr, ExprFault>
+    ensures ok { IfOk result (IsExpression profile text.now) }
+    ensures limits { IfOk result (IsExpr profile) }
+    ensures only { IfOk result (λ e. (other : Expr) → IsExpression profile text.now other → other ≡ e) }
+    ensures refused { result ≡ Err ExprFault.NotExpr → (e : Expr) → ¬ IsExpression profile text.now e }
+    ensures value { IfOk result (λ e. expr_of profile text.now ≡ Some e) }
+    ensures none { result ≡ Err ExprFault.NotExpr → expr_of profile text.now ≡ None }
     ensures reading { IsReading expr_of }
 {
-    let mut reader = Reader::new(alloc, text)?;
+    let mut reader = Reader::new(alloc, text, profile)?;
     let whole = reader.loose(alloc, EXPRESSION_LEVEL_LIMIT)?;
     if !reader.is_at_end() {
         return Err(ExprFault::NotExpr);
@@ -75,10 +74,10 @@ impl<'a> Model for Reader<'a> {
 }
 
 impl<'a> Reader<'a> {
-    fn new(alloc: Global, text: &'a [u8]) -> Result<Reader<'a>, NoMemory>
-        ensures { IfOk result (λ r. r ≡ tokens plain false text.now) }
+    fn new(alloc: Global, text: &'a [u8], profile: Profile) -> Result<Reader<'a>, NoMemory>
+        ensures { IfOk result (λ r. r ≡ tokens profile false text.now) }
     {
-        let mut lexer = Lexer::new(text, false);
+        let mut lexer = Lexer::new(text, profile, false);
         let next = lexer.next(alloc)?;
         Ok(Reader { lexer, next })
     }

@@ -1,7 +1,7 @@
 ghost use Rattle.std.specs.Prelude.{◌≡◌, ◌++◌, map, codes, IfOk, OnOk};
-ghost use Rattle.sc_types.specs.Profiles.{plain};
 ghost use Rattle.sc_types.specs.Expressions.{expr_text, field_text, IsExpr, IsExpression};
 ghost use Rattle.sc_types.specs.Values.{joined};
+ghost use Rattle.sc_types.specs.declared.profile.Profile.{Profile};
 
 use crate::lexer::op_text;
 use crate::literal::{put_text, put_truth};
@@ -13,7 +13,8 @@ use std::alloc::Global;
 #[tactic(auto, using(crate::proofs::Printed::printed_is_expression))]
 pub fn print_expr(alloc: Global, e: &Expr) -> Result<Bytes, NoMemory>
     ensures text { IfOk result (λ text. text ≡ expr_text e.now) }
-    ensures spelled { IsExpr e.now → IfOk result (λ text. IsExpression plain text e.now) }
+    ensures spelled { (profile : Profile) → IsExpr profile e.now
+        → IfOk result (λ text. IsExpression profile text e.now) }
 {
     let mut out = TextWriter::new(alloc);
     put_expr(&mut out, e)?;

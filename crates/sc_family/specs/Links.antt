@@ -9,6 +9,10 @@ pub record FamilyOf : Type 0 where
   pub links : List Link
   pub spare : ℕ
 
+-- the names of the children, in the order of the links
+abbrev pub names_of : List Link → List (List ℕ)
+names_of links = map (λ (link : Link). link.child) links
+
 -- whether a link is that of the child
 abbrev pub is_child : List ℕ → Link → Bool
 is_child child link = bytes_eq link.child child

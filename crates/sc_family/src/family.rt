@@ -1,12 +1,10 @@
-ghost use Rattle.std.specs.Prelude.{◌≡◌, ◌+◌, ◌-◌, ◌<◌, ◌≤◌, None, IsOk, OnOk, OnErr, [], ◌∷◌, ◌++◌, length};
+ghost use Rattle.std.specs.Prelude.{◌≡◌, ◌-◌, ◌<◌, ◌≤◌, None, IsOk, OnOk, OnErr, [], ◌∷◌, ◌++◌};
 ghost use Rattle.std.specs.Option.{option_copied};
-ghost use Rattle.std.specs.Prelude.{vec_len, vec_capacity};
 ghost use Rattle.sc_family.specs.Links.{link_for, is_live, cut_off};
 
-use crate::chain::{end_of, hash_of, place_in_chain, set_end};
 use crate::link::Link;
-use indexmap::IndexMap;
 use sc_base::NoMemory;
+use sc_rooms::NameIndex;
 use std::alloc::Global;
 use std::marker::Model;
 
@@ -14,37 +12,20 @@ use std::marker::Model;
 #[derive(Drop)]
 pub struct Family {
     links: Vec<Link>,
-    // The place of the link before each in its chain.
-    earlier: Vec<usize>,
-    // By the hash of a child's name, the end of its chain.
-    ends: IndexMap<u64, usize>,
-    spare: usize,
+    index: NameIndex,
 }
 
 impl Model for Family {
-    ghost use Rattle.std.specs.Prelude.{length, vec_capacity};
-    ghost use Rattle.indexmap.specs.IndexMap.{spare as map_room};
-    ghost use Rattle.sc_family.specs.Links.{FamilyOf};
-    ghost use Rattle.sc_family.specs.Chains.{IsIndexed, HasRoom, end_of};
+    ghost use Rattle.std.specs.Prelude.{◌+◌, ◌≤◌, length, vec_capacity};
+    ghost use Rattle.sc_rooms.specs.Chains.{IsIndex};
+    ghost use Rattle.sc_family.specs.Links.{FamilyOf, names_of};
 
     ghost Value = { FamilyOf };
 
-    ghost view = { λ f. record { links = f.links.items; spare = f.spare } };
+    ghost view = { λ f. record { links = f.links.items; spare = f.index.spare } };
 
-    ghost invariant = { λ f. IsIndexed f.links.items f.earlier.items (end_of f.ends)
-        × HasRoom f.spare (length f.links.items) (vec_capacity f.links) (vec_capacity f.earlier) (map_room f.ends) };
-}
-
-fn push_reserved<T: Drop>(items: &mut Vec<T>, item: T)
-    requires { vec_len items.old < vec_capacity items.old }
-    ensures items { items.new.items ≡ items.old.items ++ item ∷ [] }
-    ensures len { vec_len items.new ≡ length items.old.items + 1 }
-    ensures capacity { vec_capacity items.old ≤ vec_capacity items.new }
-{
-    match items.push(item) {
-        Ok(()) => {}
-        Err(_) => unreachable!(),
-    }
+    ghost invariant = { λ f. IsIndex (names_of f.links.items) f.index
+        × (length f.links.items + f.index.spare ≤ vec_capacity f.links) };
 }
 
 impl Family {
@@ -54,9 +35,7 @@ impl Family {
     {
         Family {
             links: Vec::new(alloc),
-            earlier: Vec::new(alloc),
-            ends: IndexMap::new(alloc),
-            spare: 0,
+            index: NameIndex::new(alloc),
         }
     }
 
@@ -68,14 +47,11 @@ impl Family {
         ensures err { OnErr result (self.new ≡ self.old) }
         ensures enough { count ≤ self.old.spare → IsOk result × (self.new ≡ self.old) }
     {
-        if count <= self.spare {
+        if count <= self.index.spare() {
             return Ok(());
         }
         self.links.reserve(count)?;
-        self.earlier.reserve(count)?;
-        self.ends.reserve(count)?;
-        self.spare = count;
-        Ok(())
+        self.index.reserve(count)
     }
 
     /// Binds a session to its invoker.
@@ -84,21 +60,15 @@ impl Family {
         requires new { link_for link.child self.old.links ≡ None }
         ensures { self.new ≡ record { links = self.old.links ++ link ∷ []; spare = self.old.spare - 1 } }
     {
-        let hash = hash_of(link.child.bytes());
-        let before = end_of(&self.ends, hash);
-        push_reserved(&mut self.earlier, before);
-        push_reserved(&mut self.links, link);
-        let place = self.links.len();
-        set_end(&mut self.ends, hash, place);
-        self.spare -= 1;
+        self.index.add(self.links.as_slice(), link.child.bytes());
+        self.links.push_reserved(link);
     }
 
     /// The link of an invoked session.
     pub fn link_of(&self, child: &[u8]) -> Option<&Link>
         ensures { option_copied result ≡ link_for child.now self.now.links }
     {
-        let end = end_of(&self.ends, hash_of(child));
-        let place = place_in_chain(self.links.as_slice(), self.earlier.as_slice(), end, child)?;
+        let place = self.index.place_of(self.links.as_slice(), child)?;
         Some(&self.links[place])
     }
 
@@ -108,8 +78,7 @@ impl Family {
         ensures links { self.new.links ≡ cut_off child.now self.old.links }
         ensures spare { self.new.spare ≡ self.old.spare }
     {
-        let end = end_of(&self.ends, hash_of(child));
-        match place_in_chain(self.links.as_slice(), self.earlier.as_slice(), end, child) {
+        match self.index.place_of(self.links.as_slice(), child) {
             None => false,
             Some(place) => {
                 let link = &mut self.links[place];

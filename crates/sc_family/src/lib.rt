@@ -3,7 +3,6 @@
 //! Only `reserve` takes memory, and a link is found at a cost that does not grow with their number.
 #![tactic(auto)]
 
-mod chain;
 mod family;
 mod link;
 

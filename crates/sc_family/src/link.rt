@@ -1,7 +1,5 @@
-ghost use Rattle.std.specs.Prelude.{◌≡◌};
-ghost use Rattle.sc_family.specs.Links.{is_child};
-
 use sc_base::{SharedBytes, Word};
+use sc_rooms::HasName;
 
 /// That a session was invoked, by whom and under which id.
 #[derive(Debug, Drop)]
@@ -16,8 +14,10 @@ pub struct Link {
     pub cut: bool,
 }
 
-pub fn is_child(link: &Link, child: &[u8]) -> bool
-    ensures { result ≡ is_child child.now link.now }
-{
-    link.child.bytes() == child
+impl HasName for Link {
+    ghost name = { λ l. l.child };
+
+    fn name(&self) -> &Word {
+        &self.child
+    }
 }

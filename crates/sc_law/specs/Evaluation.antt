@@ -8,7 +8,8 @@ use Rattle.std.specs.Ordering.{int_eq, is_lt, nat_cmp}
 use Rattle.std.specs.Str.{bytes_eq}
 use Rattle.sc_base.specs.Ascending.{contains}
 use Rattle.sc_base.specs.Text.{is_int}
-use Rattle.sc_types.specs.Values.{truth_text}
+use Rattle.sc_types.specs.Profiles.{text_limit}
+use Rattle.sc_types.specs.Values.{depth, truth_text, weight}
 use Rattle.sc_types.specs.declared.eval_fault.EvalFault.{EvalFault}
 use Rattle.sc_types.specs.declared.eval_fault.EvalFault.TheVariants.{Unknown, WrongKind, Overflow, ZeroDivisor, BadIndex, TooLong}
 use Rattle.sc_types.specs.declared.event.Data.{Data}
@@ -26,8 +27,9 @@ use Rattle.sc_types.specs.declared.value.Value.{Value, Row_of-Value, end_of-Valu
 use Rattle.sc_types.specs.declared.value.Value.TheOpen.{Value-F}
 use Rattle.sc_types.specs.declared.value.Value.TheVariants.{Bool as Truth, Int, Text, List as Listed, List'}
 use Rattle.sc_law.specs.Runs.{Env}
-use Rattle.sc_base.specs.declared.text.TheConstants.{TEXT_LIMIT}
-use Rattle.sc_types.specs.declared.limits.TheConstants.{ITEM_LIMIT}
+use Rattle.sc_types.specs.declared.limits.TheConstants.{ITEM_LIMIT, LIST_DEPTH_LIMIT, VALUE_WEIGHT_LIMIT}
+use Rattle.sc_types.specs.declared.profile.Profile.{Profile}
+use Rattle.sc_types.specs.declared.profile.Profile.TheVariants.{Flat, Nested}
 
 abbrev pub Evaluated : Type 0
 Evaluated = Result Value EvalFault
@@ -78,16 +80,18 @@ of_kind f o = option_map_or f o (Err WrongKind)
 abbrev pub on_truth : (Bool → Evaluated) → Evaluated → Evaluated
 on_truth f v = on_found (λ v. of_kind f (truth_of v)) v
 
--- limits: 64 bits, 4,096 bytes, 256 items
+-- limits: 64 bits; the bytes of a text by the profile; the items of a list, and what it weighs
 
 abbrev pub in_range : ℤ → Evaluated
 in_range n = if is_int n then Ok (Int n) else Err Overflow
 
-abbrev pub short_text : List ℕ → Evaluated
-short_text text = if nat_le (length text) TEXT_LIMIT then Ok (Text text) else Err TooLong
+abbrev pub short_text : Profile → List ℕ → Evaluated
+short_text profile text = if nat_le (length text) (text_limit profile) then Ok (Text text) else Err TooLong
 
 abbrev pub short_list : List Value → Evaluated
-short_list items = if nat_le (length items) ITEM_LIMIT then Ok (Listed items) else Err TooLong
+short_list items =
+    if nat_le (length items) ITEM_LIMIT && nat_le (weight (Listed items)) VALUE_WEIGHT_LIMIT then Ok (Listed items)
+    else Err TooLong
 
 -- equality; values of two kinds are never equal
 
@@ -126,11 +130,11 @@ ordered operator (Value-F.Int m) (Value-F.Int n) = Ok (Truth (compared operator 
 ordered operator (Value-F.Text s) (Value-F.Text t) = Ok (Truth (compared operator is_text_before s t))
 ordered operator v w = Err WrongKind
 
-abbrev pub sum_of : Value-F Value → Value-F Value → Evaluated
-sum_of (Value-F.Int m) (Value-F.Int n) = in_range (m +ℤ n)
-sum_of (Value-F.Text s) (Value-F.Text t) = short_text (s ++ t)
-sum_of (Value-F.List vs) (Value-F.List ws) = short_list (vs ++ ws)
-sum_of v w = Err WrongKind
+abbrev pub sum_of : Profile → Value-F Value → Value-F Value → Evaluated
+sum_of profile (Value-F.Int m) (Value-F.Int n) = in_range (m +ℤ n)
+sum_of profile (Value-F.Text s) (Value-F.Text t) = short_text profile (s ++ t)
+sum_of profile (Value-F.List vs) (Value-F.List ws) = short_list (vs ++ ws)
+sum_of profile v w = Err WrongKind
 
 abbrev pub is_zero : ℤ → Bool
 is_zero n = nat_abs n == 0
@@ -147,15 +151,15 @@ abbrev pub of_ints : Op → Value → Value → Evaluated
 of_ints operator v w = of_kind (λ m. of_kind (result_of operator m) (int_of w)) (int_of v)
 
 -- an operator on two values; `||` and `&&` are not asked here
-abbrev pub two : Op → Value → Value → Evaluated
-two Eq v w = Ok (Truth (same_value v w))
-two Ne v w = Ok (Truth (not (same_value v w)))
-two Lt v w = ordered Lt (out-Value v) (out-Value w)
-two Le v w = ordered Le (out-Value v) (out-Value w)
-two Gt v w = ordered Gt (out-Value v) (out-Value w)
-two Ge v w = ordered Ge (out-Value v) (out-Value w)
-two Add v w = sum_of (out-Value v) (out-Value w)
-two operator v w = of_ints operator v w
+abbrev pub two : Profile → Op → Value → Value → Evaluated
+two profile Eq v w = Ok (Truth (same_value v w))
+two profile Ne v w = Ok (Truth (not (same_value v w)))
+two profile Lt v w = ordered Lt (out-Value v) (out-Value w)
+two profile Le v w = ordered Le (out-Value v) (out-Value w)
+two profile Gt v w = ordered Gt (out-Value v) (out-Value w)
+two profile Ge v w = ordered Ge (out-Value v) (out-Value w)
+two profile Add v w = sum_of profile (out-Value v) (out-Value w)
+two profile operator v w = of_ints operator v w
 
 -- lists
 
@@ -164,18 +168,24 @@ abbrev pub all_of : Env → List (Env → Evaluated) → Result (List Value) Eva
 all_of env [] = Ok []
 all_of env (part ∷ parts) = on_found (λ v. on_found (λ vs. Ok (v ∷ vs)) (all_of env parts)) (part env)
 
--- an item is an integer or a text
-abbrev pub is_item_in : Value-F Value → Bool
-is_item_in (Value-F.Int n) = true
-is_item_in (Value-F.Text text) = true
-is_item_in v = false
+-- an item is an integer or a text, or a list where lists nest
+abbrev pub is_item_in : Profile → Value-F Value → Bool
+is_item_in profile (Value-F.Bool b) = false
+is_item_in profile (Value-F.Int n) = true
+is_item_in profile (Value-F.Text text) = true
+is_item_in Flat (Value-F.List items) = false
+is_item_in Nested (Value-F.List items) = true
 
-abbrev pub is_item_kind : Value → Bool
-is_item_kind v = is_item_in (out-Value v)
+abbrev pub is_item_kind : Profile → Value → Bool
+is_item_kind profile v = is_item_in profile (out-Value v)
 
--- the items are evaluated first, then their kinds are looked at, then their number
-abbrev pub listed : List Value → Evaluated
-listed items = if list_all is_item_kind items then short_list items else Err WrongKind
+abbrev pub shallow : Value → Evaluated
+shallow v = if nat_le (depth v) LIST_DEPTH_LIMIT then Ok v else Err TooLong
+
+-- the items are evaluated first, then their kinds are looked at, then the limits of the list
+abbrev pub listed : Profile → List Value → Evaluated
+listed profile items =
+    if list_all (is_item_kind profile) items then on_found shallow (short_list items) else Err WrongKind
 
 abbrev pub place_in : List Value → ℤ → Evaluated
 place_in items (pos n) = option_map_or Ok (slice_get items n) (Err BadIndex)
@@ -256,7 +266,7 @@ is_active id env =
 abbrev pub two_of : Op → (Env → Evaluated) → (Env → Evaluated) → Env → Evaluated
 two_of Or a b env = on_truth (λ t. if t then Ok (Truth true) else on_truth (λ u. Ok (Truth u)) (b env)) (a env)
 two_of And a b env = on_truth (λ t. if t then on_truth (λ u. Ok (Truth u)) (b env) else Ok (Truth false)) (a env)
-two_of operator a b env = on_both (two operator) (a env) (b env)
+two_of operator a b env = on_both (two env.profile operator) (a env) (b env)
 
 -- An expression, from left to right, up to the first fault; the expressions of a list; and the one expression behind a
 -- pointer.
@@ -265,7 +275,7 @@ unfoldable mutual
   value (expr.Bool b) env = Ok (Truth b)
   value (expr.Int n) env = Ok (Int n)
   value (expr.Text text) env = Ok (Text text)
-  value (expr.List' shape row) env = on_found listed (all_of env (values row))
+  value (expr.List' shape row) env = on_found (listed env.profile) (all_of env (values row))
   value (expr.Datum name) env = datum name env
   value (expr.Field f) env = or_unknown (option_and_then (field_value f) env.bound)
   value (expr.Active id) env = Ok (Truth (is_active id env))

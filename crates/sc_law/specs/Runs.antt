@@ -9,6 +9,7 @@ use Rattle.sc_types.specs.declared.event.Data.TheVariants.{Absent, Pairs}
 use Rattle.sc_types.specs.declared.event.Event.{Event}
 use Rattle.sc_types.specs.declared.event.Kind.TheVariants.{Platform}
 use Rattle.sc_types.specs.declared.history.LogLine.{LogLine}
+use Rattle.sc_types.specs.declared.profile.Profile.{Profile}
 use Rattle.sc_types.specs.declared.session.Invoked.{Invoked}
 use Rattle.sc_types.specs.declared.session.Phase.TheVariants as phase
 use Rattle.sc_types.specs.declared.session.SessionState.{SessionState}
@@ -25,6 +26,7 @@ pub record Env : Type 0 where
   pub bound : Option Event
   pub session : List ℕ
   pub chart_name : List ℕ
+  pub profile : Profile
 
 -- What content reads and changes. `entered` are the states that were entered at least once, `todo` those whose invokes
 -- are still to be started; `sends` and `born` count the ids that were made and the sessions that were invoked;

@@ -18,7 +18,7 @@ use Rattle.sc_types.specs.declared.session.How.TheVariants as how
 use Rattle.sc_types.specs.declared.session.Phase.{Phase}
 use Rattle.sc_types.specs.declared.session.Phase.TheVariants as phase
 use Rattle.sc_types.specs.declared.session.SessionState.{SessionState}
-use Rattle.sc_types.specs.Attributes.{text_at}
+use Rattle.sc_types.specs.Attributes.{profile_of, text_at}
 use Rattle.sc_law.specs.Tree.{root}
 use Rattle.sc_law.specs.Configurations.{parent_of}
 use Rattle.sc_law.specs.Entry.{first_entry}
@@ -109,6 +109,7 @@ begin_env c before = record {
   bound = before.bound;
   session = before.session;
   chart_name = unwrap_or (text_at attribute.Name c.root) [];
+  profile = profile_of c;
 }
 
 abbrev pub begin : Chart → SessionState → RunState

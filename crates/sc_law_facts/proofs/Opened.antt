@@ -9,8 +9,9 @@ use Rattle.sc_types.specs.declared.value.Value.TheBlock.{shown-the_row-Value-0}
 use denote.Hole.Carrier as carrier
 use Rattle.sc_law.specs.Nodes.{elements_from}
 use Rattle.sc_law.specs.Content.{part}
+use Rattle.sc_types.specs.Values.{depth, weight}
 use Rattle.sc_law.specs.Evaluation.{value, same_value}
 
 unfoldable pub opened : ℕ
-unfolding out-Node roll-Node shown-the_row-Node-0 out-Expr roll-Expr shown-the_row-Expr-0 shown-the_row-Expr-1 out-Value roll-Value shown-the_row-Value-0 carrier.out carrier.roll carrier.shown carrier.hidden elements_from part value same_value
+unfolding out-Node roll-Node shown-the_row-Node-0 out-Expr roll-Expr shown-the_row-Expr-0 shown-the_row-Expr-1 out-Value roll-Value shown-the_row-Value-0 carrier.out carrier.roll carrier.shown carrier.hidden elements_from part value same_value weight depth
 opened = 0

@@ -1,13 +1,15 @@
 -- Expressions with their values and faults. SCXML 5.9 leaves the expression language to the host; its values are
 -- numbers of 64 bits, texts, lists and truth values.
-use Rattle.std.specs.Prelude.{List, [], ◌∷◌, Option, Some, None, Result, Ok, Err, true, false, codes}
+use Rattle.std.specs.Prelude.{ℕ, zero, suc, List, [], ◌∷◌, Option, Some, None, Result, Ok, Err, true, false, codes}
 use Rattle.sc_types.specs.declared.eval_fault.EvalFault.{EvalFault}
-use Rattle.sc_types.specs.declared.eval_fault.EvalFault.TheVariants.{Unknown, WrongKind, Overflow, ZeroDivisor, BadIndex}
+use Rattle.sc_types.specs.declared.eval_fault.EvalFault.TheVariants.{Unknown, WrongKind, Overflow, ZeroDivisor, BadIndex, TooLong}
 use Rattle.sc_types.specs.declared.event.Data.TheVariants.{One, Pairs}
 use Rattle.sc_types.specs.declared.event.Event.{Event}
 use Rattle.sc_types.specs.declared.expr.EventField.TheVariants as field
 use Rattle.sc_types.specs.declared.expr.Expr.{Expr}
 use Rattle.sc_types.specs.declared.expr.Expr.TheVariants as expr
+use Rattle.sc_types.specs.declared.profile.Profile.{Profile}
+use Rattle.sc_types.specs.declared.profile.Profile.TheVariants.{Flat, Nested}
 use Rattle.sc_types.specs.declared.value.Value.{Value}
 use Rattle.sc_law.specs.Runs.{Env}
 use Rattle.sc_law_facts.specs.ChartWords.{◌&◌}
@@ -16,8 +18,8 @@ use Rattle.sc_law_facts.specs.TurnWords.{outer, pair, platform, with_data}
 use Rattle.sc_law_facts.specs.ValueWords.{◌and◌, ◌eq◌, ◌ge◌, ◌gt◌, ◌le◌, ◌less◌, ◌lt◌, ◌ne◌, ◌or◌, ◌over◌, ◌plus◌, ◌rem◌, ◌times◌, active, bool, boolean, datum, event_data, event_data_of, event_field, int, item, len, list, minus, negative, not, number, row, string, text, text_of}
 
 -- data of each kind, and three states, of which the second is not active
-abbrev env : Option Event → Env
-env bound = record {
+abbrev env : Profile → Option Event → Env
+env profile bound = record {
   values = (codes "none", None) ∷ (codes "n", Some (number 3)) ∷ (codes "m", Some (negative 5))
       ∷ (codes "t", Some (string "x")) ∷ (codes "b", Some (boolean true))
       ∷ (codes "l", Some (list (number 1 ∷ string "a" ∷ number 5 ∷ []))) ∷ [];
@@ -26,24 +28,32 @@ env bound = record {
   bound = bound;
   session = codes "s";
   chart_name = codes "nm";
+  profile = profile;
 }
 
-abbrev sum : Option Event → Expr → Result Value EvalFault → List Sum
-sum bound e result = record { expr = e; env = env bound; result = result } ∷ []
+abbrev sum : Profile → Option Event → Expr → Result Value EvalFault → List Sum
+sum profile bound e result = record { expr = e; env = env profile bound; result = result } ∷ []
 
 -- an expression that has a value, and one that has none, where there is no event yet
 abbrev gives : Expr → Value → List Sum
-gives e v = sum None e (Ok v)
+gives e v = sum Flat None e (Ok v)
 
 abbrev fails : Expr → EvalFault → List Sum
-fails e fault = sum None e (Err fault)
+fails e fault = sum Flat None e (Err fault)
 
 -- the same while an event is handled
 abbrev gives_at : Event → Expr → Value → List Sum
-gives_at bound e v = sum (Some bound) e (Ok v)
+gives_at bound e v = sum Flat (Some bound) e (Ok v)
 
 abbrev fails_at : Event → Expr → EvalFault → List Sum
-fails_at bound e fault = sum (Some bound) e (Err fault)
+fails_at bound e fault = sum Flat (Some bound) e (Err fault)
+
+-- the same where lists nest
+abbrev nests : Expr → Value → List Sum
+nests e v = sum Nested None e (Ok v)
+
+abbrev nests_not : Expr → EvalFault → List Sum
+nests_not e fault = sum Nested None e (Err fault)
 
 abbrev greatest : Expr
 greatest = int 9223372036854775807
@@ -116,6 +126,26 @@ lists =
 abbrev euro : Expr
 euro = expr.Text (226 ∷ 130 ∷ 172 ∷ [])
 
+-- so many brackets round 1, and the list that they write
+abbrev brackets : ℕ → Expr
+brackets zero = int 1
+brackets (suc n) = row (brackets n ∷ [])
+
+abbrev bracketed : ℕ → Value
+bracketed zero = number 1
+bracketed (suc n) = list (bracketed n ∷ [])
+
+-- Where lists nest, eight may stand in one another; where values are flat, no list stands in one. A truth value is no
+-- item.
+abbrev nested : List Sum
+nested =
+    nests (row (row (int 1 ∷ int 2 ∷ []) ∷ text "a" ∷ [])) (list (list (number 1 ∷ number 2 ∷ []) ∷ string "a" ∷ []))
+    & nests (item (item (row (int 1 ∷ brackets 2 ∷ [])) (int 1)) (int 0)) (bracketed 1)
+    & nests (brackets 8) (bracketed 8)
+    & nests_not (brackets 9) TooLong
+    & fails (brackets 2) WrongKind
+    & nests_not (row (bool true ∷ [])) WrongKind
+
 -- The length of a text is that of its bytes. Numbers and truth values have texts, and a text is its own.
 abbrev texts : List Sum
 texts =
@@ -165,4 +195,4 @@ events =
 
 -- all of these
 abbrev pub sums : List Sum
-sums = numbers & truths & lists & texts & names & events
+sums = numbers & truths & lists & nested & texts & names & events

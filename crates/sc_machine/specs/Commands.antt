@@ -1,6 +1,7 @@
 -- The host machine: what it answers to a command, and the host after it. This host's own rule.
 use Rattle.std.specs.Prelude.{ℕ, ◌+◌, ◌==◌, Bool, false, true, not, if◌then◌else◌, nat_lt, is_some, Option, Some, None, Result, Ok, Err, List, [], ◌∷◌, ◌++◌, length, filter, sum_by}
 use Rattle.std.specs.List.{list_any}
+use Rattle.sc_types.specs.Values.{weight}
 use Rattle.sc_types.specs.declared.chart.Chart.{Chart}
 use Rattle.sc_types.specs.declared.chart.ChartFault.{ChartFault}
 use Rattle.sc_types.specs.declared.command.Command.{Command}
@@ -20,8 +21,6 @@ use Rattle.sc_types.specs.declared.session.Cue.{Cue}
 use Rattle.sc_types.specs.declared.session.Phase.{Phase}
 use Rattle.sc_types.specs.declared.session.Phase.TheVariants as phase
 use Rattle.sc_types.specs.declared.value.Value.{Value}
-use Rattle.sc_types.specs.declared.value.Value.TheFolds.{fold-Value}
-use Rattle.sc_types.specs.declared.value.Value.TheOpen.{Value-F}
 use Rattle.sc_law.specs.LegalCharts.{legal_chart_of}
 use Rattle.sc_law.specs.Runs.{fresh_state, pairs_data}
 use Rattle.sc_law.specs.Turn.{TurnResult, turn}
@@ -83,15 +82,7 @@ start g session chart =
 
 -- post
 
--- what a value weighs: 16, and its bytes or its items
-abbrev pub weight_step : Value-F ℕ → ℕ
-weight_step (Value-F.Text text) = 16 + length text
-weight_step (Value-F.List items) = 16 + sum_by (λ n. n) items
-weight_step v = 16
-
-unfoldable pub weight : Value → ℕ
-weight v = fold-Value ℕ weight_step v
-
+-- what a pair weighs: its name, 4, and its value
 abbrev pub pair_weight : List ℕ × Value → ℕ
 pair_weight p = length p.0 + 4 + weight p.1
 

@@ -13,7 +13,7 @@ ghost use Rattle.sc_select.specs.Runs.{IsRunOf};
 ghost use Rattle.sc_micro.specs.Blocks.{done_kids};
 
 use crate::blocks::kids_of;
-use crate::finals::{is_final, is_in_final, is_parallel};
+use crate::finals::is_in_final;
 use sc_base::{Name, NoMemory, SharedBytes, TextWriter};
 use sc_exec::{Running, payload};
 use sc_tables::Tables;
@@ -28,7 +28,7 @@ pub(crate) fn tell(alloc: Global, run: &mut Running, t: &Tables, s: u32) -> Resu
     ensures ok { OnOk result (running_of run.new ≡ told t.now s (running_of run.old)) }
     ensures kept { KeepsRows run.old run.new }
 {
-    if !is_final(t, s) {
+    if !t.is_final(s) {
         return Ok(());
     }
     match t.parent(s) {
@@ -86,7 +86,7 @@ fn tell_parallel(alloc: Global, run: &mut Running, t: &Tables, s: u32) -> Result
     ensures ok { OnOk result (running_of run.new ≡ tell_parallel t.now s (running_of run.old)) }
     ensures kept { KeepsRows run.old run.new }
 {
-    if is_parallel(t, s) && is_in_final(t, &run.env.configuration, t.count(), s) {
+    if t.is_parallel(s) && is_in_final(t, &run.env.configuration, t.count(), s) {
         return enqueue_done(alloc, run, t, s, Data::Absent);
     }
     Ok(())

@@ -7,7 +7,6 @@ ghost use Rattle.sc_exec.specs.Runs.{running_of};
 ghost use Rattle.sc_select.specs.Runs.{IsRunOf};
 
 use crate::done::done_data;
-use crate::finals::is_final;
 use crate::leaving::{leave_all, members};
 use sc_base::NoMemory;
 use sc_exec::Running;
@@ -39,7 +38,7 @@ fn top_final(t: &Tables, states: &[u32]) -> Option<u32>
     ensures within { IfSome result (λ s. (s < state_count t.now) × (is_final t.now s ≡ true)) }
 {
     for s in states {
-        if is_final(t, *s) && is_top(t, *s) {
+        if t.is_final(*s) && is_top(t, *s) {
             return Some(*s);
         }
     }

@@ -3,26 +3,12 @@ ghost use Rattle.std.specs.List.{list_all, list_any};
 ghost use Rattle.sc_base.specs.Ascending.{contains};
 ghost use Rattle.sc_law.specs.Configurations.{children};
 ghost use Rattle.sc_law.specs.Entering.{is_in_final};
-ghost use Rattle.sc_law.specs.Kinds.{is_final, is_parallel};
+ghost use Rattle.sc_law.specs.Kinds.{is_final};
 ghost use Rattle.sc_law.specs.Tree.{state_count};
 
 use sc_bits::Row;
 use sc_tables::Tables;
 use sc_types::StateKind;
-
-pub(crate) fn is_final(t: &Tables, s: u32) -> bool
-    requires { s < state_count t.now }
-    ensures { result ≡ is_final t.now s }
-{
-    matches!(t.kind(s), StateKind::Final)
-}
-
-pub(crate) fn is_parallel(t: &Tables, s: u32) -> bool
-    requires { s < state_count t.now }
-    ensures { result ≡ is_parallel t.now s }
-{
-    matches!(t.kind(s), StateKind::Parallel)
-}
 
 /// Whether a state is done: a compound one with an active final, or a parallel one whose child states are all done. So
 /// many levels at most. SCXML Appendix D, isInFinalState.
@@ -67,7 +53,7 @@ fn is_active_final(t: &Tables, conf: &Row, s: u32) -> bool
     requires s { s < state_count t.now }
     ensures { result ≡ (contains conf.now.members s && is_final t.now s) }
 {
-    conf.has(s) && is_final(t, s)
+    conf.has(s) && t.is_final(s)
 }
 
 /// Whether a child state is an active final.

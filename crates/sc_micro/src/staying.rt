@@ -1,12 +1,10 @@
 ghost use Rattle.std.specs.Prelude.{◌≡◌, ◌<◌, ◌&&◌, All, length, nat_le, true};
-ghost use Rattle.sc_law.specs.Kinds.{is_history_kind};
 ghost use Rattle.sc_law.specs.Transitions.{transition_paths};
 ghost use Rattle.sc_law.specs.Tree.{state_count};
 ghost use Rattle.sc_micro.specs.Staying.{are_in_order, are_targetless, is_history_number};
 
 use sc_sets::Histories;
 use sc_tables::Tables;
-use sc_types::StateKind;
 
 /// Whether transitions have no targets, so that they exit and enter nothing.
 pub(crate) fn are_targetless(t: &Tables, trs: &[u32]) -> bool
@@ -37,18 +35,12 @@ fn may_follow(t: &Tables, from: u32, s: u32) -> bool
     ensures value { result ≡ (nat_le from s && is_history_number t.now s) }
     ensures within { result ≡ true → s < state_count t.now }
 {
-    from <= s && is_history(t, s)
+    from <= s && is_history_number(t, s)
 }
 
-fn is_history(t: &Tables, s: u32) -> bool
+fn is_history_number(t: &Tables, s: u32) -> bool
     ensures value { result ≡ is_history_number t.now s }
     ensures within { result ≡ true → s < state_count t.now }
 {
-    s < t.count() && is_history_kind(t.kind(s))
-}
-
-fn is_history_kind(kind: StateKind) -> bool
-    ensures { result ≡ is_history_kind kind }
-{
-    matches!(kind, StateKind::Shallow | StateKind::Deep)
+    s < t.count() && t.is_history(s)
 }

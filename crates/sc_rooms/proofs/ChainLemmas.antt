@@ -1,9 +1,9 @@
 -- The chains of names of one hash: what a walk along one has seen, and what a new name makes of them.
-use Rattle.std.proofs.Common.{◌≡◌, ◌≢◌, ℕ, ◌+◌, ◌-◌, ◌<◌, ◌≤◌, ◌==◌, inl, inr, nat_lt, Bool, true, false, cond, Option, None, Some, MatchOption, IfSome, slice_get, List, [], ◌∷◌, ◌++◌, length, get_or, refl, arith, ap, sym, ◌∙◌, subst, length-append}
+use Rattle.std.proofs.Common.{◌≡◌, ◌≢◌, ℕ, ◌+◌, ◌-◌, ◌<◌, ◌≤◌, ◌==◌, inl, inr, nat_lt, Bool, true, false, cond, Option, None, Some, MatchOption, IfSome, slice_get, List, map, [], ◌∷◌, ◌++◌, length, get_or, refl, arith, ap, sym, ◌∙◌, subst, length-append}
 use Rattle.std.proofs.Math.Seq.{get_or-append_seam}
 use Rattle.std.proofs.lemmas.Bool.{cases_order, cases_lt}
 use Rattle.std.proofs.lemmas.Bool.Decides.{nat_tests}
-use Rattle.std.proofs.lemmas.List.{get_or-map, get_or_append_left, get_or_default, length-map}
+use Rattle.std.proofs.lemmas.List.{get_or-map, get_or_append_left, length-map}
 use Rattle.std.proofs.lemmas.Option.{get_or_from_slice_get, slice_get_within}
 use Rattle.std.specs.Borrow.{Bor}
 use Rattle.std.specs.Option.{option_copied}
@@ -55,12 +55,20 @@ search-goes_on names earlier name at c s positive n =
       own = λ p. l.own p ∙ hash;
     }
 
--- where the test of a word is false, the name at its place is another
-pub other-word : (names : List (List ℕ)) (name word : List ℕ) (i : ℕ) → i < length names → word ≡ get_or names i word
-    → false ≡ bytes_eq word name → get_or names i [] ≢ name
-other-word names name word i h e t = λ f.
-    let same : word ≡ name = e ∙ get_or_default names i word [] h ∙ f in
-    let yes : bytes_eq word name ≡ true = (bytes_decides word name).1 same in
+-- where the test of an item's name is true, the item at its place has the name
+pub name-true : {T : Type 0} (name_of : T → List ℕ) (items : List T) (name : List ℕ) (item : T) (i : ℕ)
+    → i < length items → item ≡ get_or items i item → true ≡ bytes_eq (name_of item) name
+    → get_or (map name_of items) i [] ≡ name
+name-true name_of items name item i h e t =
+    get_or-map name_of items i item [] h ∙ ap name_of (sym e) ∙ (bytes_decides (name_of item) name).0 (sym t)
+
+-- where it is false, the item has another name
+pub name-false : {T : Type 0} (name_of : T → List ℕ) (items : List T) (name : List ℕ) (item : T) (i : ℕ)
+    → i < length items → item ≡ get_or items i item → false ≡ bytes_eq (name_of item) name
+    → get_or (map name_of items) i [] ≢ name
+name-false name_of items name item i h e t = λ f.
+    let same : name_of item ≡ name = ap name_of e ∙ sym (get_or-map name_of items i item [] h) ∙ f in
+    let yes : bytes_eq (name_of item) name ≡ true = (bytes_decides (name_of item) name).1 same in
     cc
 
 -- ---- the place of a name

@@ -1,7 +1,9 @@
 -- For proofs: how a name is found. The names of one hash form a chain, from the last to the first. A place in it is
 -- counted from 1, and 0 is its end.
-use Rattle.std.specs.Prelude.{◌≡◌, ◌≢◌, ℕ, ◌+◌, ◌-◌, ◌*◌, ◌^◌, ◌%◌, ◌<◌, ◌≤◌, nat_eq, bit_xor, fold, map, unwrap_or, List, length, slice_index, slice_index_or, []}
+use Rattle.std.specs.Prelude.{◌≡◌, ◌≢◌, ℕ, ◌+◌, ◌-◌, ◌*◌, ◌^◌, ◌%◌, ◌<◌, ◌≤◌, nat_eq, bit_xor, fold, map, unwrap_or, List, length, slice_index, slice_index_or, vec_capacity, []}
 use Rattle.std.specs.HashMap.{HashMap, get}
+use Rattle.indexmap.specs.IndexMap.{spare as map_room}
+use Rattle.sc_rooms.specs.declared.name_index.NameIndex.{NameIndex}
 use Rattle.sc_rooms.specs.Rooms.{AreDistinct}
 
 -- Fowler, Noll and Vo's hash 1a, of 64 bits
@@ -41,9 +43,13 @@ pub record IsIndexed (names : List (List ℕ)) (earlier : List ℕ) (ends_at : �
   pub distinct : AreDistinct names
   pub ends : (hash : ℕ) → IsLast (hashes_of names) (length names) hash (ends_at hash)
 
+-- this is an index of these names, with the room that it says
+pub record IsIndex (names : List (List ℕ)) (index : NameIndex) : Type 0 where
+  pub chains : IsIndexed names index.earlier.items (end_of index.ends)
+  pub earlier : length names + index.spare ≤ vec_capacity index.earlier
+  pub ends : index.spare ≤ map_room index.ends
+
 -- there is room for so many more
-pub record HasRoom (more count for_names for_items for_earlier for_ends : ℕ) : Type 0 where
+pub record HasRoom (more count for_names for_items : ℕ) : Type 0 where
   pub names : count + more ≤ for_names
   pub items : count + more ≤ for_items
-  pub earlier : count + more ≤ for_earlier
-  pub ends : more ≤ for_ends

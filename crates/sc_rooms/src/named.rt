@@ -4,8 +4,7 @@ ghost use Rattle.std.specs.Borrow.{Lends, sem};
 ghost use Rattle.sc_rooms.specs.Rooms.{place_of, AreDistinct};
 ghost use Rattle.sc_rooms.specs.contracts.named.Named.{the_row};
 
-use crate::chain::{end_of, hash_of, place_in_chain, set_end};
-use indexmap::IndexMap;
+use crate::name_index::NameIndex;
 use sc_base::{NoMemory, Word};
 use std::alloc::Global;
 use std::marker::Model;
@@ -16,27 +15,20 @@ use std::marker::Model;
 pub struct Named<T> {
     names: Vec<Word>,
     items: Vec<T>,
-    // The place of the name before each in its chain.
-    earlier: Vec<usize>,
-    // By the hash of a name, the end of its chain.
-    ends: IndexMap<u64, usize>,
-    spare: usize,
+    index: NameIndex,
 }
 
 impl<T> Model for Named<T> {
     ghost use Rattle.std.specs.Prelude.{◌≡◌, length, vec_capacity};
-    ghost use Rattle.indexmap.specs.IndexMap.{spare as map_room};
     ghost use Rattle.sc_rooms.specs.Rooms.{NamedOf};
-    ghost use Rattle.sc_rooms.specs.Chains.{IsIndexed, HasRoom, end_of};
+    ghost use Rattle.sc_rooms.specs.Chains.{IsIndex, HasRoom};
 
     ghost Value = { NamedOf T };
 
-    ghost view = { λ n. record { names = n.names.items; items = n.items.items; spare = n.spare } };
+    ghost view = { λ n. record { names = n.names.items; items = n.items.items; spare = n.index.spare } };
 
-    ghost invariant = { λ n. IsIndexed n.names.items n.earlier.items (end_of n.ends)
-        × (length n.items.items ≡ length n.names.items)
-        × HasRoom n.spare (length n.names.items) (vec_capacity n.names) (vec_capacity n.items)
-        (vec_capacity n.earlier) (map_room n.ends) };
+    ghost invariant = { λ n. IsIndex n.names.items n.index × (length n.items.items ≡ length n.names.items)
+        × HasRoom n.index.spare (length n.names.items) (vec_capacity n.names) (vec_capacity n.items) };
 }
 
 fn name_at(names: &[Word], place: usize) -> Option<&Word>
@@ -53,9 +45,7 @@ impl<T> Named<T> {
         Named {
             names: Vec::new(alloc),
             items: Vec::new(alloc),
-            earlier: Vec::new(alloc),
-            ends: IndexMap::new(alloc),
-            spare: 0,
+            index: NameIndex::new(alloc),
         }
     }
 
@@ -72,9 +62,7 @@ impl<T> Named<T> {
         ensures value { result ≡ place_of name.now self.now.names }
         ensures within { IfSome result (λ place. place < length self.now.items) }
     {
-        let name = name.bytes();
-        let end = end_of(&self.ends, hash_of(name));
-        place_in_chain(self.names.as_slice(), self.earlier.as_slice(), end, name)
+        self.index.place_of(self.names.as_slice(), name.bytes())
     }
 
     /// The item at a place.
@@ -112,15 +100,12 @@ impl<T: Drop> Named<T> {
         ensures ok { OnOk result (count ≤ self.new.spare) }
         ensures enough { count ≤ self.old.spare → IsOk result × (self.new ≡ self.old) }
     {
-        if count <= self.spare {
+        if count <= self.index.spare() {
             return Ok(());
         }
         self.names.reserve(count)?;
         self.items.reserve(count)?;
-        self.earlier.reserve(count)?;
-        self.ends.reserve(count)?;
-        self.spare = count;
-        Ok(())
+        self.index.reserve(count)
     }
 
     /// Adds an item under a name that is new.
@@ -131,13 +116,8 @@ impl<T: Drop> Named<T> {
         ensures items { self.new.items ≡ self.old.items ++ item ∷ [] }
         ensures spare { self.new.spare ≡ self.old.spare - 1 }
     {
-        let hash = hash_of(name.bytes());
-        let before = end_of(&self.ends, hash);
-        self.earlier.push_reserved(before);
+        self.index.add(self.names.as_slice(), name.bytes());
         self.names.push_reserved(name);
         self.items.push_reserved(item);
-        let place = self.names.len();
-        set_end(&mut self.ends, hash, place);
-        self.spare -= 1;
     }
 }

@@ -1,6 +1,7 @@
 -- Numbers of few digits, and the values that they write.
 use Rattle.std.proofs.Common.{◌≡◌, ℕ, ◌+◌, ◌*◌, ◌-◌, ◌<◌, ◌≤◌, ◌^◌, ◌==◌, ◌&&◌, Bool, true, false, nat_lt, Some, None, List, length, take, get_or, pos, IsTrue, if◌then◌else◌, refl, ap, sym, ◌∙◌, arith}
-use Rattle.std.proofs.lemmas.Bool.{and_parts, lt-ltb, ltb-true, leb-true, not-true}
+use Rattle.std.proofs.lemmas.Bool.{and_parts, cond-true, lt-ltb, ltb-true, leb-true, not-true}
+use Rattle.std.specs.Prelude.{None, option_and_then}
 use Rattle.std.proofs.lemmas.Bool.Decides.{nat_tests}
 use Rattle.std.proofs.lemmas.Fmt.{decimal-digits_value}
 use Rattle.std.proofs.lemmas.Int.Digits.{digits_value_more}
@@ -9,7 +10,9 @@ use Rattle.std.proofs.lemmas.Str.Parse.{digit_at, digits_value_short, digits_val
 use Rattle.std.specs.Fmt.{decimal}
 use Rattle.std.specs.Str.Parse.{digits_value}
 use Rattle.sc_types.specs.Delays.{are_digits}
-use Rattle.sc_types.specs.Values.{fits, literal_value}
+use Rattle.sc_types.specs.Values.{fits, fits_flat}
+use Rattle.sc_types.proofs.ValueLemmas.{fits-Int}
+use Rattle.sc_script.specs.Pairs.{flat, posted_value}
 use Rattle.sc_types.specs.declared.value.Value.{Value}
 use Rattle.sc_types.specs.declared.value.Value.TheVariants.{Int, outs-Int}
 use Rattle.sc_expr.proofs.LiteralLemmas.{number-text}
@@ -41,11 +44,12 @@ front_bound text i digits h =
     let bound = short_bound text digits h in
     omega (arith, less, bound)
 
--- a number is the literal of its value
-number_literal : (n : ℕ) → n < 2 ^ 63 → literal_value (decimal n) ≡ Some (Int (pos n))
-number_literal n h =
-    let fine : IsTrue (fits (Int (pos n))) = rw (outs-Int (pos n), fits) (lt-ltb n (2 ^ 63) h) in
-    ap literal_value (sym (number-text (pos n))) ∙ printed_value (Int (pos n)) fine
+-- a number is the literal of its value, which is flat
+number_posted : (n : ℕ) → n < 2 ^ 63 → posted_value (decimal n) ≡ Some (Int (pos n))
+number_posted n h =
+    let fine : IsTrue (fits (Int (pos n))) = fits-Int (pos n) (lt-ltb n (2 ^ 63) h) in
+    ap posted_value (sym (number-text (pos n))) ∙ ap (option_and_then flat) (printed_value (Int (pos n)) fine)
+    ∙ cond-true (fits_flat (Int (pos n))) (Some (Int (pos n))) None (rw (outs-Int (pos n), fits_flat) (lt-ltb n (2 ^ 63) h))
 
 single : (size b : ℕ) → nat_lt 1 size && b == 48 ≡ false → b ≡ 48 → 0 < size → size ≡ 1
 single size b h k l = grind (arith, nat_tests)
@@ -69,19 +73,19 @@ short_parts text e =
       digits = all.1;
     }
 
-literal_of_short : (text : List ℕ) → IsShort text → literal_value text ≡ Some (Int (pos (digits_value 10 text)))
-literal_of_short text s =
+posted_of_short : (text : List ℕ) → IsShort text → posted_value text ≡ Some (Int (pos (digits_value 10 text)))
+posted_of_short text s =
     let n = digits_value 10 text in
     let bound : n < 10 ^ 18 = short_bound text s.digits s.short in
     let same : decimal n ≡ text =
     decimal-digits_value own text s.digits s.some (λ e. single (length text) (get_or text 0 0) s.plain e s.some) (omega (arith, bound)) in
-    ap literal_value (sym same) ∙ number_literal n (omega (arith, bound))
+    ap posted_value (sym same) ∙ number_posted n (omega (arith, bound))
 
--- a short number is the literal of its value
-pub short_literal : (text : List ℕ) (v : Value) → short_value text ≡ Some v → literal_value text ≡ Some v
-short_literal text v h = by (is_short text) refl h
+-- a short number is the value that is posted
+pub short_posted : (text : List ℕ) (v : Value) → short_value text ≡ Some v → posted_value text ≡ Some v
+short_posted text v h = by (is_short text) refl h
   where
     by : (b : Bool) → is_short text ≡ b → (if b then Some (Int (pos (digits_value 10 text))) else None) ≡ Some v
-        → literal_value text ≡ Some v
-    by true e h = literal_of_short text (short_parts text e) ∙ h
+        → posted_value text ≡ Some v
+    by true e h = posted_of_short text (short_parts text e) ∙ h
     by false e h = cc

@@ -4,7 +4,7 @@ use Rattle.std.specs.List.{position}
 use Rattle.sc_base.specs.Text.{is_plain_name}
 use Rattle.sc_types.specs.Descriptors.{grow_first}
 use Rattle.sc_types.specs.Tokens.{is_quote}
-use Rattle.sc_types.specs.Values.{literal_value}
+use Rattle.sc_types.specs.Values.{fits_flat, literal_value}
 use Rattle.sc_types.specs.declared.value.Value.{Value}
 use Rattle.sc_script.specs.declared.pieces.Place.{Place}
 use Rattle.sc_script.specs.declared.pieces.Quote.{Quote}
@@ -48,9 +48,16 @@ Pair = List ℕ × Value
 abbrev pub named : List ℕ → Option Value → Option Pair
 named name value = if is_plain_name name then option_map (λ v. (name, v)) value else None
 
+abbrev pub flat : Value → Option Value
+flat v = if fits_flat v then Some v else None
+
+-- the value of a pair: a flat one, since no other is kept in a journal
+abbrev pub posted_value : List ℕ → Option Value
+posted_value text = option_and_then flat (literal_value text)
+
 abbrev pub pair_at : List ℕ → Option ℕ → Option Pair
 pair_at text None = None
-pair_at text (Some place) = named (take place text) (literal_value (drop (place + 1) text))
+pair_at text (Some place) = named (take place text) (posted_value (drop (place + 1) text))
 
 -- `NAME=VALUE`: a plain name, and the literal of a value behind the first `=`
 abbrev pub pair_of : List ℕ → Option Pair

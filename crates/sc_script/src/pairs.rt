@@ -1,8 +1,7 @@
 ghost use Rattle.std.specs.Prelude.{◌≡◌, ◌<◌, ◌==◌, ◌∷◌, ◌++◌, [], Some, None, Ok, Err, IfOk, OnOk, IfSome, option_map, length};
 ghost use Rattle.std.specs.List.{position};
-ghost use Rattle.sc_types.specs.Values.{literal_value};
 ghost use Rattle.sc_script.specs.declared.fault.Cause.{Cause};
-ghost use Rattle.sc_script.specs.Pairs.{named, pair_of, pairs_of};
+ghost use Rattle.sc_script.specs.Pairs.{named, pair_of, pairs_of, posted_value};
 
 use crate::fault::Cause;
 use crate::pieces::{count_pieces, cut_piece};
@@ -71,9 +70,9 @@ fn put_named(
     literal: &[u8],
 ) -> Result<(), Failure<Cause>>
     ensures ok { OnOk result
-        (option_map (λ p. pairs.old ++ p ∷ []) (named name.now (literal_value literal.now)) ≡ Some pairs.new) }
+        (option_map (λ p. pairs.old ++ p ∷ []) (named name.now (posted_value literal.now)) ≡ Some pairs.new) }
     ensures fault { (cause : Cause) → result ≡ Err (Failure.Fault cause)
-        → (cause ≡ Cause.BadValue) × (named name.now (literal_value literal.now) ≡ None) }
+        → (cause ≡ Cause.BadValue) × (named name.now (posted_value literal.now) ≡ None) }
 {
     match PlainName::of(alloc, name) {
         Ok(name) => {
@@ -87,15 +86,16 @@ fn put_named(
 }
 
 fn read_literal(alloc: Global, text: &[u8]) -> Result<Value, Failure<Cause>>
-    ensures ok { IfOk result (λ v. literal_value text.now ≡ Some v) }
+    ensures ok { IfOk result (λ v. posted_value text.now ≡ Some v) }
     ensures fault { (cause : Cause) → result ≡ Err (Failure.Fault cause)
-        → (cause ≡ Cause.BadValue) × (literal_value text.now ≡ None) }
+        → (cause ≡ Cause.BadValue) × (posted_value text.now ≡ None) }
 {
     if let Some(value) = short_value(text) {
         return Ok(value);
     }
     match read_value(alloc, text) {
-        Ok(value) => Ok(value),
+        Ok(value) if value.fits_flat() => Ok(value),
+        Ok(_) => Err(Failure::Fault(Cause::BadValue)),
         Err(ExprFault::NotExpr) => Err(Failure::Fault(Cause::BadValue)),
         Err(ExprFault::NoMemory) => Err(Failure::NoMemory),
     }

@@ -13,15 +13,8 @@ use crate::enabled::first_enabled;
 use sc_base::NoMemory;
 use sc_exec::Running;
 use sc_tables::Tables;
-use sc_types::{ShortList, StateKind};
+use sc_types::ShortList;
 use std::alloc::Global;
-
-fn is_atomic(t: &Tables, s: u32) -> bool
-    requires { s < state_count t.now }
-    ensures { result ≡ is_atomic t.now s }
-{
-    matches!(t.kind(s), StateKind::Atomic | StateKind::Final)
-}
 
 /// Adds a transition that was found, where it wasn't chosen yet.
 fn choose(chosen: &mut ShortList, found: Option<u32>) -> Result<(), NoMemory>
@@ -59,7 +52,7 @@ fn add_choice(
     ensures within { OnOk result (All (λ tr. tr < length (transition_paths t.now)) chosen.new) }
     ensures kept { KeepsRows run.old run.new }
 {
-    if !is_atomic(t, s) {
+    if !t.is_atomic(s) {
         return Ok(());
     }
     let found = first_enabled(alloc, run, t, event, s)?;

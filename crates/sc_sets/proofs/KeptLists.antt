@@ -1,6 +1,6 @@
 -- What histories keep.
-use Rattle.std.proofs.Common.{◌≡◌, ℕ, ◌+◌, ◌<◌, ◌==◌, ◌&&◌, ◌++◌, ◌∷◌, [], zero, suc, Bool, true, false, not, cond, Option, Some, None, Result, Ok, Err, IfOk, All, List, filter, nat_lt, filter_map, find, refl, arith, ap, sym, ◌∙◌}
-use Rattle.std.proofs.lemmas.List.Elements.{All-filter, filter_map-append}
+use Rattle.std.proofs.Common.{◌≡◌, ℕ, ◌<◌, ◌==◌, ◌&&◌, ◌∷◌, [], suc, Bool, true, false, not, cond, Option, Some, None, Result, Ok, Err, IfOk, All, List, filter, nat_lt, filter_map, find, refl, arith, ap, sym, ◌∙◌}
+use Rattle.std.proofs.lemmas.List.Elements.{All-filter}
 use Rattle.std.proofs.lemmas.Bool.Decides.{nat_tests}
 use Rattle.std.specs.List.{cons_option, list_all, range_with_len}
 use Rattle.sc_base.specs.Ascending.{contains}

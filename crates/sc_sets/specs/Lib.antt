@@ -3,3 +3,4 @@ pub mod Steps
 pub mod Targets
 pub mod Triples
 pub mod Union
+pub mod Entering

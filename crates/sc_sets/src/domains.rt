@@ -6,7 +6,7 @@ ghost use Rattle.sc_law.specs.Transitions.{is_internal, source, transition_paths
 ghost use Rattle.sc_law.specs.Tree.{ancestors, state_count};
 ghost use Rattle.sc_sets.specs.Conditions.{KeepsStates};
 
-use crate::targets::{is_above_all, is_compound, is_none};
+use crate::targets::{is_above_all, is_none};
 use sc_tables::Tables;
 use sc_types::{Attribute, Histories};
 
@@ -48,7 +48,7 @@ fn is_compound_state(t: &Tables, s: u32) -> bool
     ensures { result ≡ is_compound t.now s }
 {
     if s < t.count() {
-        is_compound(t, s)
+        t.is_compound(s)
     } else {
         let _chart = t.chart();
         false
@@ -71,7 +71,7 @@ fn nearest_above(t: &Tables, h: &Histories, s: u32, targets: &[u32]) -> u32
 {
     let mut next = parent(t, s);
     while let Some(above) = next {
-        if is_compound(t, above) && is_above_all(t, h, targets, above) {
+        if t.is_compound(above) && is_above_all(t, h, targets, above) {
             return above;
         }
         next = t.parent(above);

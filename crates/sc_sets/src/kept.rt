@@ -1,16 +1,16 @@
 ghost use Rattle.std.specs.Prelude.{◌≡◌, ◌<◌, ◌&&◌, ◌==◌, ◌++◌, ◌∷◌, [], ℕ, IfOk, OnOk, OnErr, List, filter_map, find, if◌then◌else◌};
 ghost use Rattle.std.specs.List.{cons_option, range_with_len};
 ghost use Rattle.sc_law.specs.Configurations.{parent_of};
-ghost use Rattle.sc_law.specs.Kinds.{is_atomic, is_deep};
+ghost use Rattle.sc_law.specs.Kinds.{is_atomic};
 ghost use Rattle.sc_law.specs.Records.{kept_by, record_all, records};
 ghost use Rattle.sc_law.specs.Tree.{is_below, state_count};
 ghost use Rattle.sc_sets.specs.Conditions.{KeepsStates};
 
-use crate::targets::{is_history, kept_of};
+use crate::targets::kept_of;
 use sc_base::{NoMemory, Plain, Sequence};
 use sc_bits::Row;
 use sc_tables::Tables;
-use sc_types::{Histories, StateKind};
+use sc_types::Histories;
 use std::alloc::Global;
 
 /// Records the histories of all states to be exited, before the first of these is exited. Out of memory, the table
@@ -81,7 +81,7 @@ fn kept_by(
     requires exited { exit.now.width ≡ state_count t.now }
     ensures { IfOk result (λ r. r ≡ kept_by t.now conf.now.members exit.now.members h.now s) }
 {
-    if !is_history(t, s) {
+    if !t.is_history(s) {
         return Ok(None);
     }
     // A row holds numbers below its width.
@@ -120,7 +120,7 @@ fn records(
     requires small { state_count t.now < 4294967296 }
     ensures { IfOk result (λ ss. ss ≡ records t.now conf.now.members s) }
 {
-    let deep = is_deep(t, s);
+    let deep = t.is_deep(s);
     let mut states = Sequence::new(alloc);
     let mut from = 0;
     while let Some(a) = conf.next(from) {
@@ -143,25 +143,11 @@ fn is_recorded(t: &Tables, deep: bool, parent: u32, s: u32) -> bool
     ensures { result ≡ (if deep then is_below t.now s parent && is_atomic t.now s else parent_of t.now s == parent) }
 {
     if deep {
-        t.is_below(s, parent) && is_atomic(t, s)
+        t.is_below(s, parent) && t.is_atomic(s)
     } else {
         match t.parent(s) {
             Some(own) => own == parent,
             None => false,
         }
     }
-}
-
-fn is_deep(t: &Tables, s: u32) -> bool
-    requires { s < state_count t.now }
-    ensures { result ≡ is_deep t.now s }
-{
-    matches!(t.kind(s), StateKind::Deep)
-}
-
-fn is_atomic(t: &Tables, s: u32) -> bool
-    requires { s < state_count t.now }
-    ensures { result ≡ is_atomic t.now s }
-{
-    matches!(t.kind(s), StateKind::Atomic | StateKind::Final)
 }

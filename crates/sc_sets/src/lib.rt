@@ -6,6 +6,7 @@
 
 mod domains;
 mod enter;
+mod entering;
 mod entry;
 mod exit;
 mod kept;

@@ -1,35 +1,13 @@
 ghost use Rattle.std.specs.Prelude.{◌≡◌, ◌<◌, ◌≤◌, ◌==◌, ℕ, All, IfSome, List, find, length, option_map, slice_index};
 ghost use Rattle.std.specs.Option.{option_copied};
 ghost use Rattle.sc_law.specs.Tree.{state_count};
-ghost use Rattle.sc_law.specs.Kinds.{is_compound, is_history, is_parallel};
 ghost use Rattle.sc_law.specs.Sets.{effective_targets, is_above_all, some_states, stands_for, value_of_history};
 ghost use Rattle.sc_sets.specs.Conditions.{KeepsStates};
 ghost use Rattle.sc_sets.specs.Targets.{is_empty};
 
 use sc_base::Sequence;
 use sc_tables::Tables;
-use sc_types::{Histories, StateKind};
-
-pub(crate) fn is_compound(t: &Tables, s: u32) -> bool
-    requires { s < state_count t.now }
-    ensures { result ≡ is_compound t.now s }
-{
-    matches!(t.kind(s), StateKind::Compound)
-}
-
-pub(crate) fn is_parallel(t: &Tables, s: u32) -> bool
-    requires { s < state_count t.now }
-    ensures { result ≡ is_parallel t.now s }
-{
-    matches!(t.kind(s), StateKind::Parallel)
-}
-
-pub(crate) fn is_history(t: &Tables, s: u32) -> bool
-    requires { s < state_count t.now }
-    ensures { result ≡ is_history t.now s }
-{
-    matches!(t.kind(s), StateKind::Shallow | StateKind::Deep)
-}
+use sc_types::Histories;
 
 /// What a history recorded; an empty record is no value.
 pub(crate) fn value_of<'a>(t: &Tables, h: &'a Histories, s: u32) -> Option<&'a [u32]>
@@ -71,7 +49,7 @@ pub(crate) fn stands_for<'a>(
     ensures within { All (λ s. s < state_count t.now) result.now }
 {
     let target = targets[place];
-    if !is_history(t, target) {
+    if !t.is_history(target) {
         return &targets[place..place + 1];
     }
     match value_of(t, h, target) {

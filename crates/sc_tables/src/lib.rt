@@ -10,6 +10,7 @@ mod ids;
 mod kinds;
 mod nearest;
 mod rows;
+mod state_kinds;
 mod states;
 mod tables;
 mod transitions;

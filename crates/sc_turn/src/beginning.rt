@@ -138,5 +138,6 @@ fn begin_env(
         bound,
         session,
         chart_name,
+        profile: plan.profile(),
     })
 }

@@ -2,12 +2,11 @@ ghost use Rattle.std.specs.List.{cons_option};
 ghost use Rattle.std.specs.Prelude.{◌≡◌, ◌++◌, ◌<◌, [], IfOk, OnOk, codes, decimal};
 ghost use Rattle.sc_law.specs.Runs.{id_row, ids, state_id};
 ghost use Rattle.sc_law.specs.Tree.{state_count};
-ghost use Rattle.sc_law.specs.Kinds.{is_history};
 
 use sc_base::{NoMemory, SharedBytes, TextWriter};
 use sc_eval::Ids;
 use sc_tables::Tables;
-use sc_types::{Attribute, StateKind};
+use sc_types::Attribute;
 use std::alloc::Global;
 
 /// The id of a state: its own, else `#` and its number.
@@ -30,13 +29,6 @@ fn made_id(alloc: Global, s: u32) -> Result<SharedBytes, NoMemory>
     SharedBytes::from_slice(alloc, text.slice())
 }
 
-fn is_history(t: &Tables, s: u32) -> bool
-    requires { s < state_count t.now }
-    ensures { result ≡ is_history t.now s }
-{
-    matches!(t.kind(s), StateKind::Shallow | StateKind::Deep)
-}
-
 /// The ids that `In` knows. A history has none.
 pub(crate) fn chart_ids(alloc: Global, t: &Tables) -> Result<Ids, NoMemory>
     ensures { IfOk result (λ rows. rows ≡ ids t.now) }
@@ -53,7 +45,7 @@ fn add_id(alloc: Global, rows: &mut Ids, t: &Tables, s: u32) -> Result<(), NoMem
     requires { s < state_count t.now }
     ensures { OnOk result (rows.new ≡ rows.old ++ cons_option (id_row t.now s) []) }
 {
-    if is_history(t, s) {
+    if t.is_history(s) {
         return Ok(());
     }
     rows.add(state_id(alloc, t, s)?, s)

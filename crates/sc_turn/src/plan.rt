@@ -7,6 +7,7 @@ ghost use Rattle.sc_law.specs.Runs.{ids};
 ghost use Rattle.sc_law.specs.Turn.{round_limit};
 ghost use Rattle.sc_turn.specs.Eventless.{has_eventless};
 ghost use Rattle.sc_turn.specs.States.{chart_name};
+ghost use Rattle.sc_types.specs.Attributes.{profile_of};
 
 use crate::eventless::has_eventless;
 use crate::ids::chart_ids;
@@ -14,13 +15,13 @@ use crate::limit::round_limit;
 use sc_base::{NoMemory, SharedBytes};
 use sc_eval::Ids;
 use sc_tables::{Tables, build};
-use sc_types::{Attribute, Chart};
+use sc_types::{Attribute, Chart, Profile};
 use std::alloc::Global;
 use std::marker::Model;
 use std::sync::Arc;
 
 /// What the turns of a chart need, made once: its tables, the ids that `In` knows, the limit on the rounds of a turn,
-/// its name, and whether it has transitions without an event.
+/// its name, whether it has transitions without an event, and which values its expressions can make.
 #[derive(Drop)]
 pub struct Plan {
     tables: Tables,
@@ -28,6 +29,7 @@ pub struct Plan {
     limit: u64,
     name: SharedBytes,
     eventless: bool,
+    profile: Profile,
 }
 
 impl Model for Plan {
@@ -40,6 +42,7 @@ impl Model for Plan {
     ghost use Rattle.sc_law.specs.Turn.{round_limit};
     ghost use Rattle.sc_turn.specs.Eventless.{has_eventless};
     ghost use Rattle.sc_turn.specs.States.{chart_name};
+    ghost use Rattle.sc_types.specs.Attributes.{profile_of};
 
     ghost Value = { Chart };
 
@@ -48,7 +51,8 @@ impl Model for Plan {
     ghost view = { λ p. p.tables };
 
     ghost invariant = { λ p. (arc_value p.state_ids ≡ ids p.tables) × (p.limit ≡ round_limit p.tables)
-        × (p.name ≡ chart_name p.tables) × (p.eventless ≡ has_eventless p.tables) };
+        × (p.name ≡ chart_name p.tables) × (p.eventless ≡ has_eventless p.tables)
+        × (p.profile ≡ profile_of p.tables) };
 }
 
 impl Plan {
@@ -62,7 +66,7 @@ impl Plan {
         let tables = build(alloc, chart)?;
         let state_ids = shared_ids(alloc, &tables)?;
         let eventless = has_eventless(&tables);
-        Ok(joined(tables, state_ids, limit, name, eventless))
+        Ok(joined(tables, state_ids, limit, name, eventless, chart.profile()))
     }
 
     pub(crate) fn tables(&self) -> &Tables
@@ -110,6 +114,13 @@ impl Plan {
     {
         self.eventless
     }
+
+    /// Which values the chart's expressions can make.
+    pub(crate) fn profile(&self) -> Profile
+        ensures { result ≡ profile_of self.now }
+    {
+        self.profile
+    }
 }
 
 fn chart_name(alloc: Global, chart: &Chart) -> Result<SharedBytes, NoMemory>
@@ -135,11 +146,13 @@ fn joined(
     limit: u64,
     name: SharedBytes,
     eventless: bool,
+    profile: Profile,
 ) -> Plan
     requires ids { arc_value state_ids ≡ ids tables }
     requires limit { limit ≡ round_limit tables }
     requires name { name ≡ chart_name tables }
     requires eventless { eventless ≡ has_eventless tables }
+    requires profile { profile ≡ profile_of tables }
     ensures { result ≡ tables }
 {
     Plan {
@@ -148,5 +161,6 @@ fn joined(
         limit,
         name,
         eventless,
+        profile,
     }
 }

@@ -1,15 +1,20 @@
 -- The attributes of an element of a chart. Each has one of three forms: a text as it was given, words, or an
 -- expression. SCXML 3.2 to 3.14 and chapters 4 to 6 say which element has which; that they are kept so is this host's
 -- own rule.
-use Rattle.std.specs.Prelude.{ℕ, Bool, false, is_some, Option, None, Some, option_map, option_and_then, List, [], find}
+use Rattle.std.specs.Prelude.{ℕ, Bool, false, is_some, Option, None, Some, option_map, option_and_then, unwrap_or, List, [], find}
 use Rattle.std.specs.Option.{option_map_or}
 use Rattle.std.specs.Str.{bytes_eq}
 use Rattle.sc_types.specs.Elements.{attribute_text}
+use Rattle.sc_types.specs.Profiles.{profile_named}
 use Rattle.sc_types.specs.declared.attribute.Attribute.{Attribute}
+use Rattle.sc_types.specs.declared.attribute.Attribute.TheVariants.{Values}
+use Rattle.sc_types.specs.declared.chart.Chart.{Chart}
 use Rattle.sc_types.specs.declared.chart.Member.{Member}
 use Rattle.sc_types.specs.declared.chart.Member.TheVariants.{Plain, Items, Code}
 use Rattle.sc_types.specs.declared.chart.Node.{Node, out-Node}
 use Rattle.sc_types.specs.declared.expr.Expr.{Expr}
+use Rattle.sc_types.specs.declared.profile.Profile.{Profile}
+use Rattle.sc_types.specs.declared.profile.Profile.TheVariants.{Flat}
 
 -- attributes: of a list of attributes, and of an element
 
@@ -66,3 +71,7 @@ code_at a n = code_in a (members_of n)
 
 abbrev pub is_text_at : Attribute → List ℕ → Node → Bool
 is_text_at a text n = option_map_or (λ own. bytes_eq own text) (text_at a n) false
+
+-- the profile of a chart: that which the root's `values` names
+abbrev pub profile_of : Chart → Profile
+profile_of c = unwrap_or (option_and_then profile_named (text_at Values c.root)) Flat

@@ -9,7 +9,7 @@ use Rattle.serde_json.specs.Data.{Data, null, Items, no_items, item, Members, no
 use Rattle.serde_json.specs.Find.{get, as_str, as_array, as_object}
 use Rattle.serde_json.specs.Read.{read}
 use Rattle.sc_types.specs.Descriptors.{pieces}
-use Rattle.sc_types.specs.Profiles.{Profile, plain}
+use Rattle.sc_types.specs.Profiles.{profile_named}
 use Rattle.sc_types.specs.Elements.{tag_of, is_numbered, attribute_text, attributes, required, either, form_of, has_form, is_code}
 use Rattle.sc_types.specs.declared.attribute.Attribute.{Attribute}
 use Rattle.sc_types.specs.declared.faults.TheConstants.{NOT_JSON, NOT_ELEMENT, UNKNOWN_TAG, UNKNOWN_MEMBER, BAD_MEMBER, BAD_EXPR, TOO_DEEP, TOO_MANY, TOO_LARGE}
@@ -26,6 +26,8 @@ use Rattle.sc_types.specs.declared.chart.Node.TheOpen.{Node-F}
 use Rattle.sc_types.specs.declared.chart.Tag.{Tag}
 use Rattle.sc_types.specs.declared.chart.Tag.TheVariants.{Scxml}
 use Rattle.sc_types.specs.declared.expr.Expr.{Expr}
+use Rattle.sc_types.specs.declared.profile.Profile.{Profile}
+use Rattle.sc_types.specs.declared.profile.Profile.TheVariants.{Flat}
 
 -- how texts are read as expressions, in one profile and in each
 abbrev pub Reading : Type 0
@@ -146,12 +148,12 @@ first_fault code_of before (p ∷ ps) =
 abbrev pub levels : ℕ
 levels = LEVEL_LIMIT + 1
 
--- the profile that a chart asks for: there is one
-abbrev pub profile_of : Data → Profile
-profile_of d = plain
+-- the profile that a chart asks for; where its `values` is not of its form, that of a chart without it
+abbrev pub profile_at : Data → Profile
+profile_at d = unwrap_or (option_and_then profile_named (text_at (codes "values") d)) Flat
 
 unfoldable pub value_fault : Readings → Data → Option ChartFault
-value_fault code_of d = first_fault (code_of (profile_of d)) 0 (places levels [] d)
+value_fault code_of d = first_fault (code_of (profile_at d)) 0 (places levels [] d)
 
 -- none where `serde_json` reads no value
 abbrev pub json_of : List ℕ → Option Data
@@ -198,7 +200,7 @@ tree code_of zero d = node Scxml [] []
 tree code_of (suc more) d = tagged_tree code_of (tree code_of more) d (unwrap_or (tag_at d) Scxml)
 
 unfoldable pub value_chart : Readings → Data → Chart
-value_chart code_of d = record { root = tree (code_of (profile_of d)) levels d }
+value_chart code_of d = record { root = tree (code_of (profile_at d)) levels d }
 
 -- what a text spells: a chart, or its first fault
 abbrev pub chart_of : Readings → List ℕ → Result Chart ChartFault

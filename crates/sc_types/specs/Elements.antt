@@ -6,6 +6,7 @@ use Rattle.std.specs.Str.{bytes_eq}
 use Rattle.std.specs.Str.Parse.{digits_value}
 use Rattle.sc_types.specs.Delays.{are_digits, delay_of}
 use Rattle.sc_types.specs.Descriptors.{is_white_space, pieces}
+use Rattle.sc_types.specs.Profiles.{profile_named}
 use Rattle.sc_base.specs.Text.{is_word, is_plain_name, is_text}
 use Rattle.sc_types.specs.declared.attribute.Attribute.{Attribute}
 use Rattle.sc_types.specs.declared.attribute.Attribute.TheVariants as attribute
@@ -92,14 +93,15 @@ attribute_text attribute.SendIdExpr = codes "sendidexpr"
 attribute_text attribute.Src = codes "src"
 attribute_text attribute.Target = codes "target"
 attribute_text attribute.Type = codes "type"
+attribute_text attribute.Values = codes "values"
 attribute_text attribute.Version = codes "version"
 attribute_text attribute.Xmlns = codes "xmlns"
 
 -- the attributes that an element may have, ascending by name
 abbrev pub attributes : Tag → List Attribute
 attributes tag.Scxml =
-    attribute.Binding ∷ attribute.DataModel ∷ attribute.Initial ∷ attribute.Limit ∷ attribute.Name ∷ attribute.Version
-    ∷ attribute.Xmlns ∷ []
+    attribute.Binding ∷ attribute.DataModel ∷ attribute.Initial ∷ attribute.Limit ∷ attribute.Name ∷ attribute.Values
+    ∷ attribute.Version ∷ attribute.Xmlns ∷ []
 attributes tag.State = attribute.Id ∷ attribute.Initial ∷ []
 attributes tag.Parallel = attribute.Id ∷ []
 attributes tag.Final = attribute.Id ∷ []
@@ -190,6 +192,7 @@ form_of t attribute.SendIdExpr = form.Code
 form_of t attribute.Src = form.ChartName
 form_of t attribute.Target = target_form t
 form_of t attribute.Type = type_form t
+form_of t attribute.Values = form.Profile
 form_of t attribute.Version = form.Version
 form_of t attribute.Xmlns = form.NameSpace
 
@@ -229,6 +232,7 @@ has_form form.DataModel text = is_either (codes "whole") (codes "null") text
 has_form form.Binding text = is_either (codes "early") (codes "late") text
 has_form form.Truth text = is_either (codes "false") (codes "true") text
 has_form form.Limit text = is_limit text
+has_form form.Profile text = is_some (profile_named text)
 has_form form.Version text = bytes_eq text (codes "1.0")
 has_form form.NameSpace text = bytes_eq text (codes "http://www.w3.org/2005/07/scxml")
 has_form form.ChartName text = is_word_within NAME_LIMIT text

@@ -3,8 +3,8 @@ use Rattle.std.specs.Prelude.{ℕ, suc, ◌-◌, ◌==◌, ◌≤◌, if◌then�
 use Rattle.std.specs.List.{list_all}
 use Rattle.std.specs.Fmt.{signed_decimal}
 use Rattle.std.specs.Str.{bytes_eq}
-use Rattle.sc_base.specs.Text.{is_plain_name, is_text, is_int}
-use Rattle.sc_types.specs.Profiles.{Profile}
+use Rattle.sc_base.specs.Text.{is_plain_name, is_text_within, is_int}
+use Rattle.sc_types.specs.Profiles.{text_limit}
 use Rattle.sc_types.specs.Tokens.{op_text, tokens}
 use Rattle.sc_types.specs.Values.{text_literal, truth_text, joined}
 use Rattle.sc_types.specs.declared.expr.EventField.{EventField}
@@ -15,6 +15,7 @@ use Rattle.sc_types.specs.declared.expr.Expr.TheOpen.{Expr-F}
 use Rattle.sc_types.specs.declared.expr.Expr.TheVariants.{Bool as Truth, Int, Text, List as Listed, Datum, Field, Active, Not, Neg, Two, Item, Len, AsText}
 use Rattle.sc_types.specs.declared.expr.Op.{Op}
 use Rattle.sc_types.specs.declared.expr.Op.TheVariants.{Or, And, Eq, Ne, Lt, Le, Gt, Ge, Add, Sub, Mul, Div, Rem}
+use Rattle.sc_types.specs.declared.profile.Profile.{Profile}
 use Rattle.sc_types.specs.declared.token.Mark.TheVariants.{Not as Bang, Open, Close, OpenSquare, CloseSquare, Comma, Dot}
 use Rattle.sc_types.specs.declared.token.Token.{Token}
 use Rattle.sc_types.specs.declared.token.Token.TheVariants.{Word, Number, Text as Quoted, Operator, Mark as Sign}
@@ -93,28 +94,28 @@ abbrev pub is_natural : ℤ → Bool
 is_natural (pos n) = is_int (pos n)
 is_natural (negsuc n) = false
 
-abbrev pub fits_step : Expr-F Bool → Bool
-fits_step (Expr-F.Bool b) = true
-fits_step (Expr-F.Int n) = is_natural n
-fits_step (Expr-F.Text text) = is_text text
-fits_step (Expr-F.List items) = list_all (λ b. b) items
-fits_step (Expr-F.Datum name) = is_datum name
-fits_step (Expr-F.Field f) = has_plain_names f
-fits_step (Expr-F.Active id) = is_text id
-fits_step (Expr-F.Not a) = a
-fits_step (Expr-F.Neg a) = a
-fits_step (Expr-F.Two op a b) = a && b
-fits_step (Expr-F.Item a b) = a && b
-fits_step (Expr-F.Len a) = a
-fits_step (Expr-F.AsText a) = a
+abbrev pub fits_step : Profile → Expr-F Bool → Bool
+fits_step profile (Expr-F.Bool b) = true
+fits_step profile (Expr-F.Int n) = is_natural n
+fits_step profile (Expr-F.Text text) = is_text_within (text_limit profile) text
+fits_step profile (Expr-F.List items) = list_all (λ b. b) items
+fits_step profile (Expr-F.Datum name) = is_datum name
+fits_step profile (Expr-F.Field f) = has_plain_names f
+fits_step profile (Expr-F.Active id) = is_text_within (text_limit profile) id
+fits_step profile (Expr-F.Not a) = a
+fits_step profile (Expr-F.Neg a) = a
+fits_step profile (Expr-F.Two op a b) = a && b
+fits_step profile (Expr-F.Item a b) = a && b
+fits_step profile (Expr-F.Len a) = a
+fits_step profile (Expr-F.AsText a) = a
 
--- whether the leaves are what a text can spell
-unfoldable pub has_fit_leaves : Expr → Bool
-has_fit_leaves e = fold-Expr Bool fits_step e
+-- whether the leaves are what a text can spell in a profile
+unfoldable pub has_fit_leaves : Profile → Expr → Bool
+has_fit_leaves profile e = fold-Expr Bool (fits_step profile) e
 
-pub record IsExpr (e : Expr) : Type 0 where
+pub record IsExpr (profile : Profile) (e : Expr) : Type 0 where
   pub shallow : depth e ≤ EXPRESSION_LEVEL_LIMIT
-  pub leaves : IsTrue (has_fit_leaves e)
+  pub leaves : IsTrue (has_fit_leaves profile e)
 
 -- writing
 

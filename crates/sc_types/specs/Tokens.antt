@@ -5,10 +5,11 @@ use Rattle.std.specs.List.{starts_with, prefix_len, take_while}
 use Rattle.std.specs.Str.{bytes_eq}
 use Rattle.std.specs.Str.Parse.{digits_value}
 use Rattle.sc_types.specs.Descriptors.{is_white_space}
-use Rattle.sc_types.specs.Profiles.{Profile}
+use Rattle.sc_types.specs.Profiles.{text_limit}
 use Rattle.sc_base.specs.Text.{is_letter, is_digit, is_text_within}
 use Rattle.sc_types.specs.declared.expr.Op.{Op}
 use Rattle.sc_types.specs.declared.expr.Op.TheVariants.{Or, And, Eq, Ne, Lt, Le, Gt, Ge, Add, Sub, Mul, Div, Rem}
+use Rattle.sc_types.specs.declared.profile.Profile.{Profile}
 use Rattle.sc_types.specs.declared.token.Mark.{Mark}
 use Rattle.sc_types.specs.declared.token.Mark.TheVariants as mark
 use Rattle.sc_types.specs.declared.token.Token.{Token}
@@ -126,7 +127,7 @@ quoted quote (b ∷ c ∷ rest) =
 
 abbrev pub read_quoted : Profile → Option (List ℕ × List ℕ) → Read
 read_quoted profile None = bad
-read_quoted profile (Some q) = if is_text_within profile.text_limit q.0 then (Text q.0, q.1) else bad
+read_quoted profile (Some q) = if is_text_within (text_limit profile) q.0 then (Text q.0, q.1) else bad
 
 -- the token that a byte and what follows it begin with; where numbers may be signed, a `-` right before a digit
 -- belongs to the number

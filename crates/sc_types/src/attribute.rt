@@ -31,6 +31,7 @@ pub enum Attribute {
     Src,
     Target,
     Type,
+    Values,
     Version,
     Xmlns,
 }
@@ -66,6 +67,8 @@ pub enum Form {
     Truth,
     /// A number of 32 bits in decimal digits, without a leading zero.
     Limit,
+    /// The number of a profile of values.
+    Profile,
     /// `1.0`.
     Version,
     /// The name space of SCXML.
@@ -111,6 +114,7 @@ impl Attribute {
             Attribute::Src => "src",
             Attribute::Target => "target",
             Attribute::Type => "type",
+            Attribute::Values => "values",
             Attribute::Version => "version",
             Attribute::Xmlns => "xmlns",
         }
@@ -146,6 +150,7 @@ impl Attribute {
             Attribute::Src => Form::ChartName,
             Attribute::Target => tag.target_form(),
             Attribute::Type => tag.type_form(),
+            Attribute::Values => Form::Profile,
             Attribute::Version => Form::Version,
             Attribute::Xmlns => Form::NameSpace,
         }

@@ -31,6 +31,12 @@ pub const DEFAULT_ROUNDS: u32 = 1_000;
 /// The most items of a list.
 pub const ITEM_LIMIT: usize = 256;
 
+/// The most lists that may stand in one another, the outermost counted.
+pub const LIST_DEPTH_LIMIT: u32 = 8;
+
+/// The most that a value may weigh: 16 for each value in it and itself, and the bytes of its texts.
+pub const VALUE_WEIGHT_LIMIT: u64 = 2_097_152;
+
 /// The most levels of an expression, of which a leaf is one, and the most brackets that may be open at a place of its
 /// text.
 pub const EXPRESSION_LEVEL_LIMIT: u32 = 256;

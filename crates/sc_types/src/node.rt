@@ -1,10 +1,11 @@
 ghost use Rattle.std.specs.Prelude.{◌≡◌};
 ghost use Rattle.std.specs.Option.{option_copied};
-ghost use Rattle.sc_types.specs.Attributes.{plain_text, words_of, code_of, given, has, text_at, words_at, code_at, is_text_at};
+ghost use Rattle.sc_types.specs.Attributes.{plain_text, words_of, code_of, given, has, text_at, words_at, code_at, is_text_at, profile_of};
 
 use crate::attribute::Attribute;
-use crate::chart::{Member, Node};
+use crate::chart::{Chart, Member, Node};
 use crate::expr::Expr;
+use crate::profile::Profile;
 use sc_base::Bytes;
 
 impl Member {
@@ -88,5 +89,17 @@ impl Node {
             Some(own) => own == text,
             None => false,
         }
+    }
+}
+
+impl Chart {
+    /// Which values the expressions of the chart can make.
+    pub fn profile(&self) -> Profile
+        ensures { result ≡ profile_of self.now }
+    {
+        let Some(text) = self.root.text(Attribute::Values) else {
+            return Profile::Flat;
+        };
+        Profile::named(text).unwrap_or(Profile::Flat)
     }
 }

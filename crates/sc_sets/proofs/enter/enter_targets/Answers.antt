@@ -17,7 +17,13 @@ loop-place-preserved c =
     let step = up k (enters k h c.args.domain) c.args.domain in
     let states = c.stands_for-states.result.now in
     let rest = effective_targets k h (drop (i + 1) ts) in
-    let made : Becomes (state_count k) (each step states) c.loop-place.e c.up_each.new.e = rw c.count-in-loop-place.ensures at c.in_ok-up_each.ensures in
+    let made : Becomes (state_count k) (each step states) c.loop-place.e c.up_each.new.e =
+    rw (
+      c.count-in-loop-place.ensures,
+      c.new-entering.ensures.tables,
+      c.new-entering.ensures.histories,
+      c.new-entering.ensures.bound,
+    ) at c.in_ok-up_each.ensures in
     let these : states ++ rest ≡ effective_targets k h (drop i ts) =
     ap (λ xs. xs ++ rest) c.stands_for-states.ensures.value
     ∙ sym (ap (effective_targets k h) (drop_more ts i 0 c.loop-place-test.true)) in
