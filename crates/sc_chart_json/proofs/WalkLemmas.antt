@@ -3,7 +3,7 @@ use Rattle.std.proofs.Common.{◌≡◌, ℕ, suc, ◌<◌, ◌≤◌, ◌+◌, 
 use Rattle.std.proofs.lemmas.List.{same_from_push}
 use Rattle.serde_json.specs.Data.{Data, Items, item}
 use Rattle.sc_types.specs.declared.profile.Profile.{Profile}
-use Rattle.sc_types.specs.ChartTexts.{Place, kid_places, places, own_fault, states_at, first_fault, kids_at, kid_trees, tree, node, value_fault, value_chart}
+use Rattle.sc_types.specs.ChartTexts.{Place, kid_places, places, own_fault, states_at, first_fault, kids_at, kid_trees, tree, node, value_fault, value_chart, profile_at}
 use Rattle.sc_types.specs.declared.chart.ChartFault.{ChartFault}
 use Rattle.sc_types.specs.declared.chart.Node.{Node}
 use Rattle.sc_expr.specs.Reading.{expr_of}
@@ -105,17 +105,17 @@ whole : (profile : Profile) (ps : List Place) → first_fault (expr_of profile) 
 whole profile ps = ap (first_fault (expr_of profile) 0) (sym (append-nil ps))
 
 -- the first fault of the root and all below it is that of the value
-pub root_stops : (profile : Profile) (path : List ℕ) (d : Data) (f : ChartFault) → path ≡ [] → Stops profile 0 (places (levels_at path) path d) f → value_fault expr_of d ≡ Some f
+pub root_stops : (path : List ℕ) (d : Data) (f : ChartFault) → path ≡ [] → Stops (profile_at d) 0 (places (levels_at path) path d) f → value_fault expr_of d ≡ Some f
 unfolding value_fault
-root_stops profile path d f e stops = whole profile (places 41 [] d) ∙ ap (λ path. first_fault (expr_of profile) 0 (places (levels_at path) path d ++ [])) (sym e) ∙ stops []
+root_stops path d f e stops = whole (profile_at d) (places 41 [] d) ∙ ap (λ path. first_fault (expr_of (profile_at d)) 0 (places (levels_at path) path d ++ [])) (sym e) ∙ stops []
 
 -- a root that was read has no fault, and its tree is the chart
-pub root_read : (profile : Profile) (path : List ℕ) (new : Walk) (d : Data) (n : Node) → path ≡ [] → IsRead profile (record { path = path; states = 0 }) new d n
+pub root_read : (path : List ℕ) (new : Walk) (d : Data) (n : Node) → path ≡ [] → IsRead (profile_at d) (record { path = path; states = 0 }) new d n
     → (value_fault expr_of d ≡ None) × (record { root = n } ≡ value_chart expr_of d)
 unfolding value_fault value_chart
-root_read profile path new d n e read = (
-  whole profile (places 41 [] d) ∙ ap (λ path. first_fault (expr_of profile) 0 (places (levels_at path) path d ++ [])) (sym e) ∙ read.passes [],
-  ap (λ n. record { root = n }) (read.tree ∙ ap (λ path. tree (expr_of profile) (levels_at path) d) e),
+root_read path new d n e read = (
+  whole (profile_at d) (places 41 [] d) ∙ ap (λ path. first_fault (expr_of (profile_at d)) 0 (places (levels_at path) path d ++ [])) (sym e) ∙ read.passes [],
+  ap (λ n. record { root = n }) (read.tree ∙ ap (λ path. tree (expr_of (profile_at d)) (levels_at path) d) e),
 )
 
 pub ruleset walks = (own_stops, element_stops, element_read, kid_stops, kid_read, root_stops, root_read)

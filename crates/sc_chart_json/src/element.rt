@@ -14,6 +14,7 @@ pub(crate) fn attributes(tag: Tag) -> &'static [Attribute]
             Attribute::Initial,
             Attribute::Limit,
             Attribute::Name,
+            Attribute::Values,
             Attribute::Version,
             Attribute::Xmlns,
         ],

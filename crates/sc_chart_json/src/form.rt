@@ -10,7 +10,8 @@ ghost use Rattle.sc_chart_json.specs.Pieces.{kept, is_piece};
 use crate::pieces::{is_tight, white_space_in};
 use sc_expr::read_delay;
 use sc_types::{
-    EVENT_NAME_LIMIT, Form, ID_LIMIT, NAME_LIMIT, TYPE_NAME_LIMIT, is_plain_name, is_text, is_word,
+    EVENT_NAME_LIMIT, Form, ID_LIMIT, NAME_LIMIT, Profile, TYPE_NAME_LIMIT, is_plain_name, is_text,
+    is_word,
 };
 
 /// Whether a text has this form. Expressions are left to their reader.
@@ -30,6 +31,7 @@ pub(crate) fn has_form(form: Form, text: &[u8]) -> bool
         Form::Binding => is_either("early", "late", text),
         Form::Truth => is_either("false", "true", text),
         Form::Limit => is_limit(text),
+        Form::Profile => Profile::named(text).is_some(),
         Form::Version => text == "1.0".as_bytes(),
         Form::NameSpace => text == "http://www.w3.org/2005/07/scxml".as_bytes(),
         Form::ChartName => is_word_within(NAME_LIMIT, text),

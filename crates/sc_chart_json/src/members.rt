@@ -3,7 +3,6 @@ ghost use Rattle.std.specs.List.{list_all, list_any, filter_map};
 ghost use Rattle.std.specs.Str.{bytes_eq};
 ghost use Rattle.std.specs.Option.{option_map_or};
 ghost use Rattle.sc_chart_json.specs.Trees.{view, items_view};
-ghost use Rattle.sc_types.specs.Profiles.{plain};
 ghost use Rattle.sc_types.specs.Elements.{attribute_text, is_code};
 ghost use Rattle.sc_types.specs.ChartTexts.{text_at, kids_at, is_known, has_known_members, has_fit_kids, is_given, is_fit, has_one, has_fit_members, is_bad_code, bad_code, member_of, member_at, members_at};
 ghost use Rattle.sc_expr.specs.Reading.{expr_of};
@@ -16,7 +15,7 @@ use crate::tree::{as_array, as_object, as_str, member};
 use json::Value;
 use sc_base::{Bytes, Failure, Sequence};
 use sc_expr::{ExprFault, read_expr};
-use sc_types::{Attribute, Form, Member, Tag};
+use sc_types::{Attribute, Form, Member, Profile, Tag};
 use std::alloc::Global;
 
 pub(crate) fn text_at<'a>(value: &Value<'a>, name: &str) -> Option<&'a [u8]>
@@ -141,32 +140,34 @@ fn is_fit(tag: Tag, value: &Value<'_>, attribute: Attribute) -> bool
 /// The members that are kept, ascending by name.
 pub(crate) fn read_members(
     alloc: Global,
+    profile: Profile,
     tag: Tag,
     value: &Value<'_>,
 ) -> Result<Sequence<(Bytes, Member)>, Failure<Attribute>>
-    ensures ok { IfOk result (λ ms. (bad_code (expr_of plain) tag (view value.now) ≡ None)
-        × (ms ≡ members_at (expr_of plain) tag (view value.now))) }
+    ensures ok { IfOk result (λ ms. (bad_code (expr_of profile) tag (view value.now) ≡ None)
+        × (ms ≡ members_at (expr_of profile) tag (view value.now))) }
     ensures bad { (a : Attribute) → result ≡ Err (Failure.Fault a)
-        → bad_code (expr_of plain) tag (view value.now) ≡ Some a }
+        → bad_code (expr_of profile) tag (view value.now) ≡ Some a }
 {
-    read_all(alloc, attributes(tag), tag, value)
+    read_all(alloc, profile, attributes(tag), tag, value)
 }
 
 fn read_all(
     alloc: Global,
+    profile: Profile,
     attributes: &[Attribute],
     tag: Tag,
     value: &Value<'_>,
 ) -> Result<Sequence<(Bytes, Member)>, Failure<Attribute>>
-    ensures ok { IfOk result (λ ms. (find (is_bad_code (expr_of plain) tag (view value.now)) attributes.now ≡ None)
-        × (ms ≡ filter_map (member_at (expr_of plain) tag (view value.now)) attributes.now)) }
+    ensures ok { IfOk result (λ ms. (find (is_bad_code (expr_of profile) tag (view value.now)) attributes.now ≡ None)
+        × (ms ≡ filter_map (member_at (expr_of profile) tag (view value.now)) attributes.now)) }
     ensures bad { (a : Attribute) → result ≡ Err (Failure.Fault a)
-        → find (is_bad_code (expr_of plain) tag (view value.now)) attributes.now ≡ Some a }
+        → find (is_bad_code (expr_of profile) tag (view value.now)) attributes.now ≡ Some a }
 {
     let room = own_members(value).min(attributes.len());
     let mut members = with_room(alloc, room)?;
     for attribute in attributes {
-        if let Some(member) = read_member(alloc, tag, value, *attribute)? {
+        if let Some(member) = read_member(alloc, profile, tag, value, *attribute)? {
             let name = Bytes::from_slice(alloc, attribute.text().as_bytes())?;
             members.push((name, member))?;
         }
@@ -176,18 +177,19 @@ fn read_all(
 
 fn read_member(
     alloc: Global,
+    profile: Profile,
     tag: Tag,
     value: &Value<'_>,
     attribute: Attribute,
 ) -> Result<Option<Member>, Failure<Attribute>>
-    ensures ok { IfOk result (λ o. (is_bad_code (expr_of plain) tag (view value.now) attribute ≡ false)
+    ensures ok { IfOk result (λ o. (is_bad_code (expr_of profile) tag (view value.now) attribute ≡ false)
         × (option_map (λ m. (attribute_text attribute, m)) o
-        ≡ member_at (expr_of plain) tag (view value.now) attribute)) }
+        ≡ member_at (expr_of profile) tag (view value.now) attribute)) }
     ensures bad { (a : Attribute) → result ≡ Err (Failure.Fault a) → (a ≡ attribute)
-        × (is_bad_code (expr_of plain) tag (view value.now) attribute ≡ true) }
+        × (is_bad_code (expr_of profile) tag (view value.now) attribute ≡ true) }
 {
     match text_at(value, attribute.text()) {
-        Some(text) => read_text(alloc, attribute, attribute.form(tag), text),
+        Some(text) => read_text(alloc, profile, attribute, attribute.form(tag), text),
         None => Ok(None),
     }
 }
@@ -195,17 +197,18 @@ fn read_member(
 /// The member of a text; `None` where it is not kept.
 fn read_text(
     alloc: Global,
+    profile: Profile,
     attribute: Attribute,
     form: Form,
     text: &[u8],
 ) -> Result<Option<Member>, Failure<Attribute>>
-    ensures ok { IfOk result (λ o. (is_code form && is_none (expr_of plain text.now) ≡ false)
-        × (o ≡ member_of (expr_of plain) form text.now)) }
+    ensures ok { IfOk result (λ o. (is_code form && is_none (expr_of profile text.now) ≡ false)
+        × (o ≡ member_of (expr_of profile) form text.now)) }
     ensures bad { (a : Attribute) → result ≡ Err (Failure.Fault a) → (a ≡ attribute)
-        × (is_code form && is_none (expr_of plain text.now) ≡ true) }
+        × (is_code form && is_none (expr_of profile text.now) ≡ true) }
 {
     match form {
-        Form::Code => Ok(Some(read_code(alloc, attribute, text)?)),
+        Form::Code => Ok(Some(read_code(alloc, profile, attribute, text)?)),
         Form::Ids | Form::Descriptors | Form::PlainNames => {
             Ok(Some(Member::Items(pieces(alloc, text)?)))
         }
@@ -214,11 +217,16 @@ fn read_text(
     }
 }
 
-fn read_code(alloc: Global, attribute: Attribute, text: &[u8]) -> Result<Member, Failure<Attribute>>
-    ensures ok { IfOk result (λ m. member_of (expr_of plain) Form.Code text.now ≡ Some m) }
-    ensures bad { (a : Attribute) → result ≡ Err (Failure.Fault a) → (a ≡ attribute) × (expr_of plain text.now ≡ None) }
+fn read_code(
+    alloc: Global,
+    profile: Profile,
+    attribute: Attribute,
+    text: &[u8],
+) -> Result<Member, Failure<Attribute>>
+    ensures ok { IfOk result (λ m. member_of (expr_of profile) Form.Code text.now ≡ Some m) }
+    ensures bad { (a : Attribute) → result ≡ Err (Failure.Fault a) → (a ≡ attribute) × (expr_of profile text.now ≡ None) }
 {
-    match read_expr(alloc, text) {
+    match read_expr(alloc, text, profile) {
         Ok(code) => Ok(Member::Code(code)),
         Err(fault) => Err(code_unread(attribute, fault)),
     }

@@ -1,12 +1,12 @@
 ghost use Rattle.std.specs.Prelude.{◌≡◌, ◌≢◌, ◌<◌, ◌≤◌, ◌+◌, ◌-◌, ◌^◌, nat_lt, ℕ, [], ◌∷◌, Option, None, Some, Ok, Err, IfOk, OnOk, length, if◌then◌else◌};
 ghost use Rattle.std.specs.Option.{option_map_or};
-ghost use Rattle.sc_types.specs.Profiles.{plain};
 ghost use Rattle.sc_types.specs.Elements.{is_numbered, attribute_text};
 ghost use Rattle.sc_chart_json.specs.Trees.{view, items_view};
-ghost use Rattle.sc_types.specs.ChartTexts.{chart_of, fault, own_fault, many_fault, bad_code, tag_at, kid_places, places, value_fault, value_chart, members_at};
+ghost use Rattle.sc_types.specs.ChartTexts.{chart_of, fault, own_fault, many_fault, bad_code, tag_at, kid_places, places, value_fault, value_chart, members_at, profile_at};
 ghost use Rattle.sc_types.specs.declared.chart.ChartFault.{ChartFault};
 ghost use Rattle.sc_types.specs.declared.faults.TheConstants.{BAD_EXPR, NOT_JSON};
 ghost use Rattle.sc_types.specs.declared.limits.TheConstants.{LEVEL_LIMIT, STATE_LIMIT};
+ghost use Rattle.sc_types.specs.declared.profile.Profile.{Profile};
 ghost use Rattle.sc_expr.specs.Reading.{expr_of};
 ghost use Rattle.sc_chart_json.specs.Walking.{place, Stops, levels_at, IsOwn, IsRead, AreRead};
 
@@ -21,7 +21,7 @@ use sc_types::faults::{
 };
 use sc_types::{
     Attribute, CHART_TEXT_LIMIT, Chart, ChartFault, ChartRefusal, LEVEL_LIMIT, Member, Node,
-    STATE_LIMIT, Tag,
+    Profile, STATE_LIMIT, Tag,
 };
 use std::alloc::Global;
 
@@ -75,8 +75,18 @@ fn read_root(alloc: Global, value: &Value<'_>) -> Result<Chart, ChartRefusal>
         states: 0,
     };
     Ok(Chart {
-        root: read_element(alloc, &mut walk, value)?,
+        root: read_element(alloc, profile_at(value), &mut walk, value)?,
     })
+}
+
+/// The profile that a root asks for by its member `values`. Where that is not of its form, the root has a fault.
+fn profile_at(value: &Value<'_>) -> Profile
+    ensures { result ≡ profile_at (view value.now) }
+{
+    match text_at(value, "values") {
+        Some(text) => Profile::named(text).unwrap_or(Profile::Flat),
+        None => Profile::Flat,
+    }
 }
 
 /// Where a reader stands in the tree, and how many states it has met.
@@ -122,11 +132,16 @@ impl Walk {
 
     /// Reads an element without its child elements.
     #[tactic(auto, using(crate::proofs::FaultLemmas::own_faults))]
-    fn own(&mut self, alloc: Global, value: &Value<'_>) -> Result<Own, ChartRefusal>
+    fn own(
+        &mut self,
+        alloc: Global,
+        profile: Profile,
+        value: &Value<'_>,
+    ) -> Result<Own, ChartRefusal>
         requires { self.old.states ≤ STATE_LIMIT }
-        ensures ok { IfOk result (IsOwn self.old self.new (view value.now)) }
+        ensures ok { IfOk result (IsOwn profile self.old self.new (view value.now)) }
         ensures fault { (f : ChartFault) → result ≡ Err (ChartRefusal.Fault f)
-            → own_fault (expr_of plain) self.old.states (place self.old.path (view value.now)) ≡ Some f }
+            → own_fault (expr_of profile) self.old.states (place self.old.path (view value.now)) ≡ Some f }
     {
         let tag = self.tag(alloc, value)?;
         if !has_known_members(tag, value) {
@@ -135,7 +150,7 @@ impl Walk {
         if !has_fit_members(tag, value) {
             return Err(self.fault(alloc, BAD_MEMBER));
         }
-        let members = self.members(alloc, tag, value)?;
+        let members = self.members(alloc, profile, tag, value)?;
         self.count(alloc, tag)?;
         Ok(Own { tag, members })
     }
@@ -143,8 +158,8 @@ impl Walk {
     #[tactic(auto, using(crate::proofs::FaultLemmas::tag_faults))]
     fn tag(&self, alloc: Global, value: &Value<'_>) -> Result<Tag, ChartRefusal>
         ensures ok { IfOk result (λ t. (tag_at (view value.now) ≡ Some t) × (length self.now.path < LEVEL_LIMIT)) }
-        ensures fault { (f : ChartFault) → result ≡ Err (ChartRefusal.Fault f) → (before : ℕ)
-            → own_fault (expr_of plain) before (place self.now.path (view value.now)) ≡ Some f }
+        ensures fault { (f : ChartFault) → result ≡ Err (ChartRefusal.Fault f) → (profile : Profile) (before : ℕ)
+            → own_fault (expr_of profile) before (place self.now.path (view value.now)) ≡ Some f }
     {
         let Some(name) = text_at(value, "tag") else {
             return Err(self.fault(alloc, NOT_ELEMENT));
@@ -161,16 +176,17 @@ impl Walk {
     fn members(
         &self,
         alloc: Global,
+        profile: Profile,
         tag: Tag,
         value: &Value<'_>,
     ) -> Result<Sequence<(Bytes, Member)>, ChartRefusal>
-        ensures ok { IfOk result (λ ms. (bad_code (expr_of plain) tag (view value.now) ≡ None)
-            × (ms ≡ members_at (expr_of plain) tag (view value.now))) }
+        ensures ok { IfOk result (λ ms. (bad_code (expr_of profile) tag (view value.now) ≡ None)
+            × (ms ≡ members_at (expr_of profile) tag (view value.now))) }
         ensures fault { (f : ChartFault) → result ≡ Err (ChartRefusal.Fault f) → (later : Option ChartFault)
             → option_map_or (λ a. Some (fault BAD_EXPR self.now.path (attribute_text a)))
-            (bad_code (expr_of plain) tag (view value.now)) later ≡ Some f }
+            (bad_code (expr_of profile) tag (view value.now)) later ≡ Some f }
     {
-        match read_members(alloc, tag, value) {
+        match read_members(alloc, profile, tag, value) {
             Ok(members) => Ok(members),
             Err(Failure::Fault(attribute)) => {
                 Err(self.fault_of(alloc, BAD_EXPR, attribute.text().as_bytes()))
@@ -202,18 +218,23 @@ impl Walk {
 
 #[cycle(element)]
 #[tactic(auto, using(crate::proofs::WalkLemmas::walks))]
-fn read_element(alloc: Global, walk: &mut Walk, value: &Value<'_>) -> Result<Node, ChartRefusal>
+fn read_element(
+    alloc: Global,
+    profile: Profile,
+    walk: &mut Walk,
+    value: &Value<'_>,
+) -> Result<Node, ChartRefusal>
     requires few { walk.old.states ≤ STATE_LIMIT }
     requires shallow { length walk.old.path ≤ LEVEL_LIMIT }
-    ensures ok { IfOk result (IsRead walk.old walk.new (view value.now)) }
+    ensures ok { IfOk result (IsRead profile walk.old walk.new (view value.now)) }
     ensures fault { (f : ChartFault) → result ≡ Err (ChartRefusal.Fault f)
-        → Stops walk.old.states (places (levels_at walk.old.path) walk.old.path (view value.now)) f }
+        → Stops profile walk.old.states (places (levels_at walk.old.path) walk.old.path (view value.now)) f }
 {
-    let own = walk.own(alloc, value)?;
+    let own = walk.own(alloc, profile, value)?;
     Ok(Node {
         tag: own.tag,
         members: own.members,
-        kids: read_kids(alloc, walk, kids_at(value))?,
+        kids: read_kids(alloc, profile, walk, kids_at(value))?,
     })
 }
 
@@ -221,20 +242,21 @@ fn read_element(alloc: Global, walk: &mut Walk, value: &Value<'_>) -> Result<Nod
 #[tactic(auto, using(crate::proofs::WalkLemmas::walks))]
 fn read_kids(
     alloc: Global,
+    profile: Profile,
     walk: &mut Walk,
     values: &[Value<'_>],
 ) -> Result<Sequence<Node>, ChartRefusal>
     requires few { walk.old.states ≤ STATE_LIMIT }
     requires shallow { length walk.old.path < LEVEL_LIMIT }
-    ensures ok { IfOk result (AreRead walk.old walk.new (items_view values.now)) }
-    ensures fault { (f : ChartFault) → result ≡ Err (ChartRefusal.Fault f) → Stops walk.old.states
+    ensures ok { IfOk result (AreRead profile walk.old walk.new (items_view values.now)) }
+    ensures fault { (f : ChartFault) → result ≡ Err (ChartRefusal.Fault f) → Stops profile walk.old.states
         (kid_places (places (LEVEL_LIMIT - length walk.old.path)) walk.old.path 0 (items_view values.now)) f }
 {
     let mut kids = with_room(alloc, values.len())?;
     let mut place: u32 = 0;
     for value in values {
         walk.path.push(place)?;
-        kids.push(read_element(alloc, walk, value)?)?;
+        kids.push(read_element(alloc, profile, walk, value)?)?;
         walk.path.pop();
         // A text of the greatest size has far fewer elements than 32 bits count.
         let Some(next) = next_place(place) else {

@@ -21,7 +21,7 @@ pub(crate) struct Lexer<'a> {
 
 impl<'a> Model for Lexer<'a> {
     ghost use Rattle.std.specs.Prelude.{List};
-        ghost use Rattle.sc_types.specs.Tokens.{tokens};
+    ghost use Rattle.sc_types.specs.Tokens.{tokens};
     ghost use Rattle.sc_types.specs.declared.token.Token.{Token};
 
     ghost Value = { List Token };

@@ -38,12 +38,12 @@ pub use limits::{
     LIST_DEPTH_LIMIT, NAME_LIMIT, PAIR_LIMIT, POST_WEIGHT_LIMIT, ROUND_LIMIT, SCRIPT_TEXT_LIMIT,
     SEND_TARGET_LIMIT, STATE_LIMIT, TYPE_NAME_LIMIT, VALUE_WEIGHT_LIMIT,
 };
+pub use profile::{PROFILE_COUNT, Profile};
 pub use sc_base::{
     Boxed, BoxedSequence, Bytes, Failure, Name, NoMemory, PLAIN_NAME_LIMIT, Plain, PlainName,
     Queue, Remaining, Sequence, Shared, SharedBytes, TEXT_LIMIT, TextWriter, Unfit, Word,
     is_plain_name, is_text, is_word,
 };
-pub use profile::{PROFILE_COUNT, Profile};
 pub use session::{Cue, CueName, Histories, How, Invoked, Phase, SessionState, Values};
 pub use short_list::ShortList;
 pub use state_kind::StateKind;

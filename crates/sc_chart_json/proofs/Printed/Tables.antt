@@ -15,7 +15,7 @@ all_attributes : List Attribute
 all_attributes = attribute.Array ∷ attribute.AutoForward ∷ attribute.Binding ∷ attribute.Cond ∷ attribute.DataModel ∷ attribute.Delay
     ∷ attribute.DelayExpr ∷ attribute.Event ∷ attribute.EventExpr ∷ attribute.Expr ∷ attribute.Id ∷ attribute.IdLocation ∷ attribute.Index
     ∷ attribute.Initial ∷ attribute.Item ∷ attribute.Label ∷ attribute.Limit ∷ attribute.Location ∷ attribute.Name ∷ attribute.NameList
-    ∷ attribute.SendId ∷ attribute.SendIdExpr ∷ attribute.Src ∷ attribute.Target ∷ attribute.Type ∷ attribute.Version ∷ attribute.Xmlns ∷ []
+    ∷ attribute.SendId ∷ attribute.SendIdExpr ∷ attribute.Src ∷ attribute.Target ∷ attribute.Type ∷ attribute.Values ∷ attribute.Version ∷ attribute.Xmlns ∷ []
 
 -- the attribute of this name
 attribute_of : List ℕ → Option Attribute

@@ -14,13 +14,16 @@ further_items-loop-items-preserved t c =
     let told = c.in_ok-goes_on.ensures.ok in
     let sep = told.0 ∙ ap Some c.if-branch.true in
     let pushed : c.push-in-loop-items.new.self ≡ c.loop-items.items ++ c.in_ok-next_value.field-0 ∷ [] = c.in_ok-push-2.ensures.ok in
-    let moved : c.goes_on.new.lexer ≡ drop 1 c.loop-items.lexer = told.1 in
-    (omega (arith, ap length pushed, length-append c.loop-items.items (c.in_ok-next_value.field-0 ∷ [])),
-    (omega (arith, c.in_ok-next_value.ensures.shorter, ap length moved, length-drop 1 c.loop-items.lexer, c.loop-items.invariant.1.0),
-    λ lists room.
-    an_item c.loop-items.items c.push-in-loop-items.new.self lists c.loop-items.lexer c.goes_on.new.lexer c.next_value.new.lexer
-    c.in_ok-next_value.field-0 sep told.1 (c.in_ok-next_value.ensures.ok (c.loop-items.items ∷ lists) room) c.in_ok-push-2.ensures.ok
-    ∙ c.loop-items.invariant.1.1 lists room))
+    let moved : c.goes_on.new.lexer ≡ drop 1 c.loop-items.lexer = told.1 in (
+      omega (arith, ap length pushed, length-append c.loop-items.items (c.in_ok-next_value.field-0 ∷ [])),
+      (
+        omega (arith, c.in_ok-next_value.ensures.shorter, ap length moved, length-drop 1 c.loop-items.lexer, c.loop-items.invariant.1.0),
+        λ lists room.
+            an_item c.loop-items.items c.push-in-loop-items.new.self lists c.loop-items.lexer c.goes_on.new.lexer c.next_value.new.lexer
+            c.in_ok-next_value.field-0 sep told.1 (c.in_ok-next_value.ensures.ok (c.loop-items.items ∷ lists) room) c.in_ok-push-2.ensures.ok
+            ∙ c.loop-items.invariant.1.1 lists room,
+      ),
+    )
 
 pub list_from-returns-then-levels-eq0-clause-refused : goal.list_from-returns-then-levels-eq0-clause-refused
 list_from-returns-then-levels-eq0-clause-refused t c =

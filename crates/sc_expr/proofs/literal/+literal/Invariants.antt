@@ -18,7 +18,7 @@ decreases-list_from l = 4 * l.levels
 abbrev pub invariant-further_items-loop-items : goal.invariant-further_items-loop-items
 invariant-further_items-loop-items l = (0 < length l.items) × ((length l.lexer ≤ length l.initial.lexer)
     × ((lists : Open) → suc (length lists) + l.fn.levels ≡ 8
-        → after_items l.items lists l.lexer ≡ after_items (l.fn.first ∷ []) lists l.initial.lexer))
+    → after_items l.items lists l.lexer ≡ after_items (l.fn.first ∷ []) lists l.initial.lexer))
 
 abbrev pub decreases-further_items-loop-items : goal.decreases-further_items-loop-items
 decreases-further_items-loop-items l = length l.lexer
