@@ -4,17 +4,19 @@ use Rattle.std.proofs.lemmas.Bool.{and_parts, and_from, or_right, true≢false, 
 use Rattle.std.specs.List.{list_all}
 use Rattle.std.specs.Option.{option_map_or}
 use Rattle.serde_json.specs.Data.{Data, string, array, object, Items, no_items, item, Members, no_members, put}
-use Rattle.serde_json.specs.Find.{get, get_member, as_array}
+use Rattle.serde_json.specs.Find.{get, get_member, as_array, as_object}
 use Rattle.serde_json.proofs.Views.{get_member-put, get_member-put_other}
 use Rattle.sc_types.specs.ChartTexts.{Reading, text_at, tag_at, kids_at, fault, is_known, are_known, has_known_members, is_given, has_fit_kids, is_fit, has_one, has_fit_members, is_bad_code, bad_code, tagged_fault, own_fault, member_of, member_at, members_at}
 use Rattle.sc_types.specs.Elements.{tag_text, tag_of, is_numbered, attribute_text, attributes, required, either, form_of}
 use Rattle.sc_types.specs.PrintedCharts.{put_members, put_kids}
 use Rattle.sc_types.specs.declared.attribute.Attribute.{Attribute}
+use Rattle.sc_types.specs.declared.attribute.Attribute.TheVariants.{Values}
+use Rattle.sc_types.specs.declared.attribute.Form.TheVariants as form
 use Rattle.sc_types.specs.declared.chart.ChartFault.{ChartFault}
 use Rattle.sc_types.specs.declared.chart.Member.{Member}
 use Rattle.sc_types.specs.declared.chart.Tag.{Tag}
 use Rattle.sc_chart_json.proofs.Printed.Forms.{ReadsPrinted, text_of, is_fit_value, is_bad_value, kept_of, IsStable, stable, fit_again, kept_again, good_again, given_again}
-use Rattle.sc_chart_json.proofs.Printed.Objects.{value, entry, get_members, get_other, known_members, known-put, apart}
+use Rattle.sc_chart_json.proofs.Printed.Objects.{value, entry, get_members, unknown_absent, get_other, known_members, known-put, apart}
 use Rattle.sc_chart_json.proofs.Printed.Tables.{same_attribute, tag_again, not_tag, not_kids, kids_other, is_in, each_in, is_kept_in, required_kept, either_kept}
 
 -- ---- lists
@@ -155,6 +157,17 @@ module _ (code_of : Reading) (tag : Tag) (d : Data) (kids : Items) where
       ∙ ap (λ ms. get_member (attribute_text a) (put_members ms no_members)) entries
       ∙ get_members kept a (attributes tag) inside
 
+  profile_kept : (o : Option (List ℕ)) → text_of (option_map value (option_and_then (member_of code_of form.Profile) o)) ≡ o
+  profile_kept None = refl
+  profile_kept (Some text) = refl
+
+  profile_inside : is_in Values (attributes tag) ≡ true → text_at (codes "values") printed ≡ text_at (codes "values") d
+  profile_inside inside = ap text_of (get_attribute Values inside) ∙ profile_kept (text_at (codes "values") d)
+
+  none_outside : (v : Data) → is_in Values (attributes tag) ≡ false → has_known_members tag v ≡ true → get (codes "values") v ≡ None
+  none_outside (object ms) outside known = unknown_absent tag (codes "values") ms outside known
+  none_outside v outside known = refl
+
   no_kids : get_member (codes "kids") attributes_printed ≡ None
   no_kids = ap (λ ms. get_member (codes "kids") (put_members ms no_members)) entries ∙ get_other kept (codes "kids") kids_other (attributes tag) no_members
 
@@ -185,6 +198,14 @@ module _ (code_of : Reading) (tag : Tag) (d : Data) (kids : Items) where
       (all_from (λ a. is_in a (attributes tag)) (λ a. is_known tag (attribute_text a)) (attributes tag)
       (λ a inside. or_right (bytes_eq (attribute_text a) (codes "tag") || bytes_eq (attribute_text a) (codes "kids")) _ inside) (each_in tag)) refl in
       known-put tag (codes "tag") (string (tag_text tag)) (put_kids kids attributes_printed) refl (known_kids tag kids attributes_printed known)
+
+  -- the text at `values` that was printed is that of the element, where all its members are known
+  pub profile_again : has_known_members tag d ≡ true → text_at (codes "values") printed ≡ text_at (codes "values") d
+  profile_again known = by (is_in Values (attributes tag)) refl
+    where
+      by : (v : Bool) → is_in Values (attributes tag) ≡ v → text_at (codes "values") printed ≡ text_at (codes "values") d
+      by true inside = profile_inside inside
+      by false outside = ap text_of (none_outside printed outside known_again ∙ sym (none_outside d outside known))
 
   module _ (again : ReadsPrinted code_of) (fit : list_all (is_fit tag d) (attributes tag) ≡ true) (none : bad_code code_of tag d ≡ None) where
     stable_at : (a : Attribute) → is_in a (attributes tag) ≡ true → IsStable code_of (form_of tag a) (kept a)
@@ -273,6 +294,13 @@ tagged_again code_of again before path tag d kids none =
           (good_members code_of tag d kids again fit is.good) is.room;
       members = members_again code_of tag d kids again fit is.good;
     }
+
+-- an element without a fault has no unknown members
+pub known_without_fault : (code_of : Reading) (before : ℕ) (path : List ℕ) (tag : Tag) (d : Data)
+    → tagged_fault code_of before record { path = path; value = d } tag ≡ None → has_known_members tag d ≡ true
+known_without_fault code_of before path tag d none =
+    (clean (fault 4 path []) (fault 5 path []) (fault 8 path []) (λ a. fault 6 path (attribute_text a))
+    (has_known_members tag d) (has_fit_members tag d) (bad_code code_of tag d) (is_numbered tag && nat_le 4096 before) none).known
 
 -- the tag of an element without a fault
 pub record HasTag (deep : Bool) (tag_there : Option Tag) (more : Tag → Option ChartFault) : Type 0 where

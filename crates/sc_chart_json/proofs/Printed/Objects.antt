@@ -5,7 +5,8 @@ use Rattle.std.proofs.lemmas.Slice.Eq.{bytes_eq-Decides}
 use Rattle.std.specs.Cmp.Lexicographic.{slice_cmp}
 use Rattle.std.specs.List.{list_all}
 use Rattle.std.specs.Ordering.{nat_cmp, match_ordering}
-use Rattle.std.proofs.Common.{Ordering, Less, Equal, Greater}
+use Rattle.std.proofs.Common.{Ordering, Less, Equal, Greater, is_eq}
+use Rattle.std.proofs.lemmas.Map.Text.{is_eq-slice_cmp}
 use Rattle.serde_json.specs.Data.{Data, string, Members, no_members, member, put, depth, members_depth}
 use Rattle.serde_json.specs.Find.{get_member}
 use Rattle.serde_json.specs.Written.{has_float, members_have_float}
@@ -47,6 +48,21 @@ float-put k d (member l e ms) none all =
     let both = or_parts (has_float e) _ all in
     by_order (λ ms. members_have_float ms ≡ false) (slice_cmp nat_cmp k l) _ _ _
     (or_from (has_float d) _ none all) (or_from (has_float d) _ none both.1) (or_from (has_float e) _ both.0 (float-put k d ms none both.1))
+
+-- an object of known names has nothing at a name that is not known
+pub unknown_absent : (tag : Tag) (k : List ℕ) (ms : Members) → is_known tag k ≡ false → are_known tag ms ≡ true → get_member k ms ≡ None
+unknown_absent tag k no_members unknown all = refl
+unknown_absent tag k (member l e ms) unknown all =
+    let both = and_parts (is_known tag l) _ all in
+    by (slice_cmp nat_cmp k l) refl both.0 (unknown_absent tag k ms unknown both.1)
+  where
+    by : (o : Ordering) → slice_cmp nat_cmp k l ≡ o → is_known tag l ≡ true → get_member k ms ≡ None
+        → match_ordering o (get_member k ms) (Some e) (get_member k ms) ≡ None
+    by Less is known later = later
+    by Greater is known later = later
+    by Equal is known later =
+        let same : k ≡ l = (bytes_eq-Decides k l).0 (sym (is_eq-slice_cmp k l) ∙ ap is_eq is) in
+        absurd (true≢false (sym known ∙ ap (is_known tag) (sym same) ∙ unknown))
 
 -- ---- the members of a node, which has so many of its attributes
 

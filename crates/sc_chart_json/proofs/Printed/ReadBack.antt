@@ -8,14 +8,14 @@ use Rattle.std.specs.Str.{IsUtf8, is_utf8}
 use Rattle.serde_json.specs.Data.{Data, null, depth}
 use Rattle.serde_json.specs.Read.{read}
 use Rattle.serde_json.specs.Written.{compact_text}
-use Rattle.sc_types.specs.Profiles.{plain}
-use Rattle.sc_types.specs.ChartTexts.{Readings, fault, value_fault, json_of, fault_of, value_chart, chart_of}
+use Rattle.sc_types.specs.ChartTexts.{Readings, fault, levels, places, first_fault, tree, profile_at, value_fault, json_of, fault_of, value_chart, chart_of}
 use Rattle.sc_types.specs.Expressions.{expr_text, IsExpression}
 use Rattle.sc_types.specs.PrintedCharts.{data_of, chart_text}
 use Rattle.sc_types.specs.Tokens.{tokens}
 use Rattle.sc_types.specs.declared.chart.Chart.{Chart}
 use Rattle.sc_types.specs.declared.chart.ChartFault.{ChartFault}
 use Rattle.sc_types.specs.declared.expr.Expr.{Expr}
+use Rattle.sc_types.specs.declared.profile.Profile.{Profile}
 use Rattle.sc_expr.specs.Reading.{expr_of}
 use Rattle.sc_expr.proofs.Grammar.{spelled_reads}
 use Rattle.sc_expr.proofs.LimitLemmas.{within_limits}
@@ -23,22 +23,23 @@ use Rattle.sc_expr.proofs.Printed.{printed_is_expression}
 use Rattle.sc_expr.proofs.Whole.{is_reading}
 use Rattle.sc_chart_json.proofs.Printed.Depths.{printed_shallow, no_float}
 use Rattle.sc_chart_json.proofs.Printed.Forms.{ReadsPrinted}
-use Rattle.sc_chart_json.proofs.Printed.Trees.{reprint, no_fault_again, tree_again}
+use Rattle.sc_chart_json.proofs.Printed.Trees.{reprint, no_fault_again, tree_again, profile_printed}
 
 -- ---- expressions
 
-spelled_by : (text : List ℕ) (o : Option Expr) (e : Expr) → o ≡ Some e → MatchOption o ((e : Expr) → ¬ IsExpression plain text e) (IsExpression plain text) → IsExpression plain text e
-spelled_by text None e is match = absurd (cc)
-spelled_by text (Some x) e is match = let same : x ≡ e = cc in subst (IsExpression plain text) same match
+spelled_by : (profile : Profile) (text : List ℕ) (o : Option Expr) (e : Expr) → o ≡ Some e
+    → MatchOption o ((e : Expr) → ¬ IsExpression profile text e) (IsExpression profile text) → IsExpression profile text e
+spelled_by profile text None e is match = absurd (cc)
+spelled_by profile text (Some x) e is match = let same : x ≡ e = cc in subst (IsExpression profile text) same match
 
-expression_read : (text : List ℕ) (e : Expr) → IsExpression plain text e → expr_of plain text ≡ Some e
+expression_read : (profile : Profile) (text : List ℕ) (e : Expr) → IsExpression profile text e → expr_of profile text ≡ Some e
 unfolding expr_of
-expression_read text e is = spelled_reads (tokens plain false text) e is.spelled is.shallow
+expression_read profile text e is = spelled_reads (tokens profile false text) e is.spelled is.shallow
 
-printed_read : ReadsPrinted (expr_of plain)
-printed_read text e read =
-    let is = spelled_by text (expr_of plain text) e read (is_reading plain text) in
-    expression_read (expr_text e) e (printed_is_expression e (within_limits text e is))
+printed_read : (profile : Profile) → ReadsPrinted (expr_of profile)
+printed_read profile text e read =
+    let is = spelled_by profile text (expr_of profile text) e read (is_reading profile text) in
+    expression_read profile (expr_text e) e (printed_is_expression profile e (within_limits profile text e is))
 
 -- ---- what a text spells
 
@@ -89,15 +90,20 @@ spells code_of text d short is none = by (nat_lt 1_048_576 (length text)) (json_
         ≡ Ok (value_chart code_of d)
     by long o short is = rw (short, is, none)
 
-module _ (code_of : Readings) (again : ReadsPrinted (code_of plain)) where
+module _ (code_of : Readings) (again : (profile : Profile) → ReadsPrinted (code_of profile)) where
   reads_back : (text t : List ℕ) (c : Chart) → chart_of code_of text ≡ Ok c → is_utf8 t ≡ true → read t ≡ Some (data_of c.root)
       → length t ≤ 1_048_576 → chart_of code_of t ≡ Ok c
   unfolding data_of value_chart value_fault
   reads_back text t c is utf8 reads short =
       let known = spelled code_of text c is in
-      let printed : data_of c.root ≡ reprint (code_of plain) 41 known.root = ap (λ (c : Chart). data_of c.root) known.same in
-      spells code_of t (reprint (code_of plain) 41 known.root) short (read_utf8 t _ utf8 (reads ∙ ap Some printed)) (no_fault_again (code_of plain) again 41 known.root known.none)
-      ∙ ap (λ root. Ok record { root = root }) (tree_again (code_of plain) again 41 known.root known.none)
+      let profile = profile_at known.root in
+      let e = reprint (code_of profile) 41 known.root in
+      let printed : data_of c.root ≡ e = ap (λ (c : Chart). data_of c.root) known.same in
+      let same : profile_at e ≡ profile = profile_printed (code_of profile) 40 known.root known.none in
+      spells code_of t e short (read_utf8 t _ utf8 (reads ∙ ap Some printed))
+      (ap (λ p. first_fault (code_of p) 0 (places levels [] e)) same ∙ no_fault_again (code_of profile) (again profile) 41 known.root known.none)
+      ∙ ap (λ p. Ok record { root = tree (code_of p) levels e }) same
+      ∙ ap (λ root. Ok record { root = root }) (tree_again (code_of profile) (again profile) 41 known.root known.none)
       ∙ ap Ok (sym known.same)
 
 -- it nests no deeper than what is read
@@ -105,8 +111,9 @@ shallow_chart : (text : List ℕ) (c : Chart) → chart_of expr_of text ≡ Ok c
 unfolding data_of value_chart
 shallow_chart text c is =
     let known = spelled expr_of text c is in
-    let printed : data_of c.root ≡ reprint (expr_of plain) 41 known.root = ap (λ (c : Chart). data_of c.root) known.same in
-    subst (λ d. depth d ≤ 127) (sym printed) (omega (arith, printed_shallow (expr_of plain) 41 known.root))
+    let code_of = expr_of (profile_at known.root) in
+    let printed : data_of c.root ≡ reprint code_of 41 known.root = ap (λ (c : Chart). data_of c.root) known.same in
+    subst (λ d. depth d ≤ 127) (sym printed) (omega (arith, printed_shallow code_of 41 known.root))
 
 chart_read_back : (text t : List ℕ) (c : Chart) → chart_of expr_of text ≡ Ok c → IsUtf8 t → (depth (data_of c.root) ≤ 127 → read t ≡ Some (data_of c.root))
     → length t ≤ 1_048_576 → chart_of expr_of t ≡ Ok c

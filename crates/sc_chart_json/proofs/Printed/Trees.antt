@@ -1,10 +1,11 @@
 -- A tree that is printed is read again: without a fault, and as the same tree.
-use Rattle.std.proofs.Common.{◌≡◌, ℕ, zero, suc, ◌+◌, false, if◌then◌else◌, Option, Some, None, unwrap_or, List, [], ◌∷◌, ◌++◌, map, refl, sym, ap, ◌∙◌, subst, arith}
+use Rattle.std.proofs.Common.{◌≡◌, ℕ, zero, suc, ◌+◌, false, if◌then◌else◌, Option, Some, None, unwrap_or, option_and_then, List, [], ◌∷◌, ◌++◌, map, refl, sym, ap, ◌∙◌, subst, arith}
 use Rattle.std.specs.Option.{option_map_or}
 use Rattle.serde_json.specs.Data.{Data, Items, no_items, item}
 use Rattle.serde_json.specs.View.{items_of}
-use Rattle.sc_types.specs.ChartTexts.{Reading, tag_at, kids_at, Place, kid_places, places, own_fault, states_at, or_else, first_fault, node, members_at, kid_trees, tagged_tree, tree}
+use Rattle.sc_types.specs.ChartTexts.{Reading, tag_at, kids_at, Place, kid_places, places, own_fault, states_at, or_else, first_fault, node, members_at, kid_trees, tagged_tree, tree, profile_at}
 use Rattle.sc_types.specs.Elements.{is_numbered}
+use Rattle.sc_types.specs.Profiles.{profile_named}
 use Rattle.sc_types.specs.PrintedCharts.{data_step, data_of}
 use Rattle.sc_types.specs.declared.chart.ChartFault.{ChartFault}
 use Rattle.sc_types.specs.declared.chart.Member.{Member}
@@ -12,7 +13,8 @@ use Rattle.sc_types.specs.declared.chart.Node.{Node}
 use Rattle.sc_types.specs.declared.chart.Node.TheFolds.{fold-roll-Node}
 use Rattle.sc_types.specs.declared.chart.Tag.{Tag}
 use Rattle.sc_types.specs.declared.chart.Tag.TheVariants.{Scxml}
-use Rattle.sc_chart_json.proofs.Printed.Elements.{printed, kids_again, tag_printed, some_tag, tagged_again, tag_without_fault, no_own_fault}
+use Rattle.sc_types.specs.declared.profile.Profile.TheVariants.{Flat}
+use Rattle.sc_chart_json.proofs.Printed.Elements.{printed, profile_again, known_without_fault, kids_again, tag_printed, some_tag, tagged_again, tag_without_fault, no_own_fault}
 use Rattle.sc_chart_json.proofs.Printed.Forms.{ReadsPrinted}
 
 -- ---- faults in order
@@ -172,3 +174,14 @@ no_fault_again code_of again levels d none = (goes_again code_of again levels 0 
 pub tree_again : (code_of : Reading) → ReadsPrinted code_of → (levels : ℕ) (d : Data) → first_fault code_of 0 (places levels [] d) ≡ None
     → tree code_of levels (reprint code_of levels d) ≡ tree code_of levels d
 tree_again code_of again levels d none = (goes_again code_of again levels 0 [] d none).same
+
+-- what is printed of a value without a fault asks for the same profile
+pub profile_printed : (code_of : Reading) (levels : ℕ) (d : Data) → first_fault code_of 0 (places (suc levels) [] d) ≡ None
+    → profile_at (reprint code_of (suc levels) d) ≡ profile_at d
+profile_printed code_of levels d none =
+    let both = or_else_parts (own_fault code_of 0 record { path = []; value = d }) _ none in
+    let is = tag_without_fault code_of 0 [] d both.0 in
+    let known = known_without_fault code_of 0 [] is.tag d is.none in
+    ap profile_at (tree_data code_of levels d is.tag (ap (λ o. unwrap_or o Scxml) is.there))
+    ∙ ap (λ text. unwrap_or (option_and_then profile_named text) Flat)
+    (profile_again code_of is.tag d (mapped (reprint code_of levels) (kids_at d)) known)
