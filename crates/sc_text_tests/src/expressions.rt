@@ -1,6 +1,6 @@
 use crate::recipes::large;
 use sc_expr::{ExprFault, print_expr, print_value, read_delay, read_expr, read_value};
-use sc_types::Bytes;
+use sc_types::{Bytes, Profile};
 use std::alloc::Global;
 use std::test::Fail;
 
@@ -212,8 +212,15 @@ null => refused
 [1] => [1]
 [true] => refused
 [a] => refused
-[[]] => refused
-[[1]] => refused
+[[]] => [[]]
+[[1]] => [[1]]
+[ [ 1 , 'x' ] , [] , 2 ] => [[1,'x'],[],2]
+[[[[[[[[1]]]]]]]] => [[[[[[[[1]]]]]]]]
+[[[[[[[[[1]]]]]]]]] => refused
+[[true]] => refused
+[[1],] => refused
+[[1] => refused
+[[1]]] => refused
 [1,] => refused
 [,] => refused
 [1 2] => refused
@@ -313,13 +320,23 @@ const LARGE_EXPRESSIONS: &str = r#"256 ( 1 a 256 ) => read
 1 ' 1366 € 1 ' => refused
 5000 a => refused"#;
 
+/// The same for expressions of the nested profile.
+const LONG_EXPRESSIONS: &str = r#"1 ' 4097 x 1 ' => read
+1 ' 65536 x 1 ' => read
+1 ' 65537 x 1 ' => refused
+1 [ 255 [a], 1 [a]] => read
+256 [ 256 ] => read
+257 [ 257 ] => refused"#;
+
 /// The same for the texts of values.
 const LARGE_VALUES: &str = r#"1 [ 255 -1, 1 -1] => read
 1 [ 256 -1, 1 -1] => refused
-1 ' 4096 x 1 ' => read
-1 ' 4097 x 1 ' => refused
-1 [ 1 ' 4096 x 1 '] => read
-1 [ 1 ' 4097 x 1 '] => refused
+1 ' 65536 x 1 ' => read
+1 ' 65537 x 1 ' => refused
+1 [ 1 ' 65536 x 1 '] => read
+1 [ 1 ' 65537 x 1 '] => refused
+8 [ 8 ] => read
+9 [ 9 ] => refused
 300 [ 300 ] => refused
 1 1, 1 -1 => refused"#;
 
@@ -328,8 +345,8 @@ fn refused(alloc: Global) -> Result<Bytes, Fail> {
 }
 
 /// How the expression of a text is printed; `refused` where it spells none.
-fn expression(alloc: Global, text: &[u8]) -> Result<Bytes, Fail> {
-    match read_expr(alloc, text) {
+fn expression(alloc: Global, text: &[u8], profile: Profile) -> Result<Bytes, Fail> {
+    match read_expr(alloc, text, profile) {
         Err(ExprFault::NotExpr) => refused(alloc),
         read => Ok(print_expr(alloc, &read?)?),
     }
@@ -363,7 +380,7 @@ fn outcome(printed: &[u8]) -> &'static str {
 fn expressions_are_read_and_printed(rt: HostRuntime) -> Result<(), Fail> {
     for line in EXPRESSIONS.lines() {
         let (text, wanted) = line.split_once(" => ").unwrap_or((line, ""));
-        let found = expression(rt.alloc(), text.as_bytes())?;
+        let found = expression(rt.alloc(), text.as_bytes(), Profile::Flat)?;
         assert_eq!(rt; found.slice(), wanted.as_bytes(), "{text}");
     }
     Ok(())
@@ -394,8 +411,14 @@ fn expressions_have_limits(rt: HostRuntime) -> Result<(), Fail> {
     for line in LARGE_EXPRESSIONS.lines() {
         let (recipe, wanted) = line.split_once(" => ").unwrap_or((line, ""));
         let text = large(rt.alloc(), recipe)?;
-        let found = expression(rt.alloc(), &text)?;
+        let found = expression(rt.alloc(), &text, Profile::Flat)?;
         assert_eq!(rt; outcome(found.slice()), wanted, "{recipe}");
+    }
+    for line in LONG_EXPRESSIONS.lines() {
+        let (recipe, wanted) = line.split_once(" => ").unwrap_or((line, ""));
+        let text = large(rt.alloc(), recipe)?;
+        let found = expression(rt.alloc(), &text, Profile::Nested)?;
+        assert_eq!(rt; outcome(found.slice()), wanted, "nested: {recipe}");
     }
     Ok(())
 }
@@ -422,7 +445,7 @@ fn a_text_takes_no_control_byte_and_is_utf_8(rt: HostRuntime) -> Result<(), Fail
         b"a\x0c",
     ] {
         assert_eq!(rt;
-            expression(rt.alloc(), text)?.slice(),
+            expression(rt.alloc(), text, Profile::Flat)?.slice(),
             b"refused".as_slice(),
             "{text:?}"
         );
@@ -432,7 +455,7 @@ fn a_text_takes_no_control_byte_and_is_utf_8(rt: HostRuntime) -> Result<(), Fail
             "{text:?}"
         );
     }
-    let around = expression(rt.alloc(), b"\r\n\ta\r\n\t")?;
+    let around = expression(rt.alloc(), b"\r\n\ta\r\n\t", Profile::Flat)?;
     assert_eq!(rt; around.slice(), b"a".as_slice());
     Ok(())
 }
@@ -445,13 +468,13 @@ fn a_mebibyte_of_one_byte_spells_nothing(rt: HostRuntime) -> Result<(), Fail> {
             text.extend_from_slice(&[byte; 1024])?;
         }
         assert_eq!(rt;
-            expression(rt.alloc(), &text)?.slice(),
+            expression(rt.alloc(), &text, Profile::Flat)?.slice(),
             b"refused".as_slice()
         );
         assert_eq!(rt; value(rt.alloc(), &text)?.slice(), b"refused".as_slice());
         assert!(rt; read_delay(&text).is_none());
         text.push(b'a')?;
-        assert_eq!(rt; expression(rt.alloc(), &text)?.slice(), before_a.as_bytes());
+        assert_eq!(rt; expression(rt.alloc(), &text, Profile::Flat)?.slice(), before_a.as_bytes());
     }
     Ok(())
 }
