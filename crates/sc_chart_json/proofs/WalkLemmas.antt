@@ -105,17 +105,22 @@ whole : (profile : Profile) (ps : List Place) → first_fault (expr_of profile) 
 whole profile ps = ap (first_fault (expr_of profile) 0) (sym (append-nil ps))
 
 -- the first fault of the root and all below it is that of the value
-pub root_stops : (path : List ℕ) (d : Data) (f : ChartFault) → path ≡ [] → Stops (profile_at d) 0 (places (levels_at path) path d) f → value_fault expr_of d ≡ Some f
+pub root_stops : (profile : Profile) (path : List ℕ) (d : Data) (f : ChartFault) → profile ≡ profile_at d → path ≡ []
+    → Stops profile 0 (places (levels_at path) path d) f → value_fault expr_of d ≡ Some f
 unfolding value_fault
-root_stops path d f e stops = whole (profile_at d) (places 41 [] d) ∙ ap (λ path. first_fault (expr_of (profile_at d)) 0 (places (levels_at path) path d ++ [])) (sym e) ∙ stops []
+root_stops profile path d f asked e stops =
+    ap (λ p. first_fault (expr_of p) 0 (places 41 [] d)) (sym asked) ∙ whole profile (places 41 [] d)
+    ∙ ap (λ path. first_fault (expr_of profile) 0 (places (levels_at path) path d ++ [])) (sym e) ∙ stops []
 
 -- a root that was read has no fault, and its tree is the chart
-pub root_read : (path : List ℕ) (new : Walk) (d : Data) (n : Node) → path ≡ [] → IsRead (profile_at d) (record { path = path; states = 0 }) new d n
+pub root_read : (profile : Profile) (path : List ℕ) (new : Walk) (d : Data) (n : Node) → profile ≡ profile_at d → path ≡ []
+    → IsRead profile (record { path = path; states = 0 }) new d n
     → (value_fault expr_of d ≡ None) × (record { root = n } ≡ value_chart expr_of d)
 unfolding value_fault value_chart
-root_read path new d n e read = (
-  whole (profile_at d) (places 41 [] d) ∙ ap (λ path. first_fault (expr_of (profile_at d)) 0 (places (levels_at path) path d ++ [])) (sym e) ∙ read.passes [],
-  ap (λ n. record { root = n }) (read.tree ∙ ap (λ path. tree (expr_of (profile_at d)) (levels_at path) d) e),
+root_read profile path new d n asked e read = (
+  ap (λ p. first_fault (expr_of p) 0 (places 41 [] d)) (sym asked) ∙ whole profile (places 41 [] d)
+      ∙ ap (λ path. first_fault (expr_of profile) 0 (places (levels_at path) path d ++ [])) (sym e) ∙ read.passes [],
+  ap (λ n. record { root = n }) (read.tree ∙ ap (λ path. tree (expr_of profile) (levels_at path) d) e ∙ ap (λ p. tree (expr_of p) 41 d) asked),
 )
 
 pub ruleset walks = (own_stops, element_stops, element_read, kid_stops, kid_read, root_stops, root_read)

@@ -12,4 +12,4 @@ decreases-read_kids l = 2 * (40 - length l.walk.now.path) + 1
 
 abbrev pub invariant-read_kids-loop-value : goal.invariant-read_kids-loop-value
 invariant-read_kids-loop-value l =
-    AreReading l.read_kids.profile l.initial.walk l.walk (items_view l.values) (items_view (drop l.value-index l.values)) l.value-index l.kids × (l.place ≡ l.value-index)
+    AreReading l.profile l.initial.walk l.walk (items_view l.values) (items_view (drop l.value-index l.values)) l.value-index l.kids × (l.place ≡ l.value-index)
