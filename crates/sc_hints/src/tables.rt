@@ -5,7 +5,7 @@ use std::alloc::Global;
 const ATTRIBUTES: [(&str, &str); 18] = [
     (
         "scxml",
-        "initial name datamodel binding limit version xmlns",
+        "initial name datamodel binding limit values version xmlns",
     ),
     ("state", "id initial"),
     ("parallel", "id"),
@@ -60,7 +60,7 @@ const KIDS: [(&str, &str); 15] = [
 const CHILDLESS: &str = "data content param raise elseif else log assign send cancel";
 
 /// What the text of attributes has to be, at the elements of a tag or at all others.
-const FORMS: [(&str, &str, &str); 17] = [
+const FORMS: [(&str, &str, &str); 18] = [
     ("data", "id", PLAIN_NAME),
     ("param", "name", PLAIN_NAME),
     ("", "location item index idlocation", PLAIN_NAME),
@@ -79,6 +79,7 @@ const FORMS: [(&str, &str, &str); 17] = [
     ("", "binding", "early or late"),
     ("", "autoforward", "false or true"),
     ("", "limit", "a number in digits, without a leading zero"),
+    ("", "values", "1"),
     ("", "namelist", SEVERAL),
     ("", "src", "the name of a chart, a word of at most 64 bytes"),
     ("", "delay", "a number with s or ms, as in 500ms or 1.5s"),
