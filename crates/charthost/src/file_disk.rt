@@ -1,7 +1,7 @@
-ghost use Rattle.std.specs.Prelude.{◌≡◌, ◌+◌, ◌^◌, ◌≤◌, Ok, length, IfOk};
+ghost use Rattle.std.specs.Prelude.{◌≡◌, ◌+◌, ◌^◌, ◌≤◌, Ok, length, IfOk, OnOk};
 ghost use Rattle.std.specs.Io.{ReadsAtMost};
 ghost use Rattle.sc_dev.specs.Causes.{HasCause};
-ghost use Rattle.sc_dev.specs.Disks.{Elapses};
+ghost use Rattle.sc_dev.specs.Disks.{Elapsed};
 
 use crate::parts::Parts;
 use crate::progress::Progress;
@@ -50,8 +50,9 @@ impl<'a> FileDisk<'a> {
 
     /// Counts a device call, and its fault.
     fn counted<T: Drop>(&mut self, answer: io::Result<T>) -> Result<T, Failed>
-        ensures time { Elapses self.old.moment self.new.moment MayHaveLeft MayHaveLeft MayLeave }
+        ensures time { Elapsed self.old.moment self.new.moment MayHaveLeft MayHaveLeft MayLeave }
         ensures cause { HasCause self.old.faults self.new.faults result }
+        ensures fine { OnOk result (self.new.faults ≡ self.old.faults) }
         ensures value { IfOk result (λ x. answer ≡ Ok x) }
     {
         self.moment = self.moment.saturating_add(1);
@@ -67,22 +68,10 @@ impl<'a> FileDisk<'a> {
 }
 
 impl Disk for FileDisk<'_> {
-    ghost use Rattle.charthost.specs.Untold.{MayHaveLeft, MayLeave, untold};
+    ghost use Rattle.charthost.specs.Untold.{untold_law};
     ghost use Rattle.charthost.specs.UntoldFacts.{fits_untold};
 
-    ghost tells = { ⊥ };
-
-    ghost reads = { λ _. untold };
-
-    ghost may_leave = { λ _. MayLeave };
-
-    ghost may_have_left = { λ _. MayHaveLeft };
-
-    ghost moment = { λ d. d.moment };
-
-    ghost faults = { λ d. d.faults };
-
-    ghost identity = { λ _. 0 };
+    ghost law = { untold_law (λ d. d.moment) (λ d. d.faults) };
 
     ghost stands = { λ _. fits_untold };
 

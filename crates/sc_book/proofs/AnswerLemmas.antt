@@ -15,7 +15,7 @@ use Rattle.sc_machine.specs.Histories.{Tells}
 use Rattle.sc_core.specs.HostStates.{HostOf}
 use Rattle.sc_machine.proofs.AcceptedLemmas.{refused_changes_nothing}
 use Rattle.sc_dev.specs.Causes.{Rose}
-use Rattle.sc_dev.specs.Disks.{DiskOf}
+use Rattle.sc_dev.specs.Disks.{DiskLaw, DiskOf}
 use Rattle.sc_journal.specs.Journals.{IsWithOrWithout, JournalOf, Keeps}
 use Rattle.sc_journal.specs.Stops.{LeavesOnly}
 use Rattle.sc_rooms.specs.Rooms.{PlacesOf}
@@ -45,20 +45,20 @@ same_on one two three first second = record {
   doubts = second.doubts ∙ first.doubts;
 }
 
-module _ {D : Type 0} (tells : Type 0) (leaves : D → DiskOf → Type 0) (left : D → ℕ → DiskOf → Type 0) (moment : D → ℕ)
-    (only_now : (disk : D) (d : DiskOf) → moment disk < 2 ^ 64 - 1 → left disk (moment disk) d → leaves disk d) where
+module _ {D : Type 0} (law : DiskLaw D)
+    (only_now : (disk : D) (d : DiskOf) → law.moment disk < 2 ^ 64 - 1 → law.may_have_left disk (law.moment disk) d → law.may_leave disk d) where
   abbrev Is : List Command → BookOf D → Type 0
-  Is past b = IsBook tells leaves left moment past b
+  Is past b = IsBook law past b
 
   -- the journal took no command
   pub not_stored : (past : List Command) (q : PlacesOf) (g h : HostOf) (o s : ℕ) (first mid last : Log) (i j : JournalOf D) (by : Who)
       (c : Command) (body : List ℕ) (fault : CallFault) → Is past (book_of g o s first q i) → h.image ≡ g.image
       → IsSameLog first mid → last.history.entries ≡ mid.history.entries → last.moments.items ≡ mid.moments.items
       → StoreDoubts by c mid last fault → fault ≢ NoMemory → (fault ≡ Full → j ≡ i) → j.next ≡ i.next
-      → (j.doubt ≡ None) ⊎ (j.doubt ≡ Some body) → moment i.disk ≤ moment j.disk
-      → ((bodies : List (List ℕ)) → Keeps tells leaves i first_head bodies → Keeps tells leaves j first_head bodies)
-      → ((bodies : List (List ℕ)) → Keeps tells leaves i first_head bodies
-      → LeavesOnly moment left i.disk j.disk (IsWithOrWithout first_head bodies body))
+      → (j.doubt ≡ None) ⊎ (j.doubt ≡ Some body) → law.moment i.disk ≤ law.moment j.disk
+      → ((bodies : List (List ℕ)) → Keeps law i first_head bodies → Keeps law j first_head bodies)
+      → ((bodies : List (List ℕ)) → Keeps law i first_head bodies
+      → LeavesOnly law i.disk j.disk (IsWithOrWithout first_head bodies body))
       → IsBodyOf c body → is_accepted (answer g.image c).reply ≡ true → Is past (book_of h o s last q j)
   not_stored past q g h o s first mid last i j by c body Disk is image same history moments doubts some full next doubt later kept any of granted =
       let x = doubts.doubt in
@@ -70,7 +70,7 @@ module _ {D : Type 0} (tells : Type 0) (leaves : D → DiskOf → Type 0) (left 
       subst (Is past) (same_book (record b { doubts = b.doubts ++ x ∷ []; journal = j }) (book_of h o s last q j) image refl
       (history ∙ same.history) refl (moments ∙ same.moments)
       (doubts.doubts ∙ ap (λ (ds : List Doubt). ds ++ x ∷ []) same.doubts) refl refl)
-      (failed tells leaves left moment only_now past b j x body is next doubt later kept any before
+      (failed law only_now past b j x body is next doubt later kept any before
       (subst (Spells body) (sym doubts.command) of.spells) told)
   not_stored past q g h o s first mid last i j by c body Full is image same history moments doubts some full next doubt later kept any of granted =
       subst (Is past) (same_book (book_of g o s first q i) (book_of h o s last q j) image refl (history ∙ same.history) refl
@@ -82,13 +82,13 @@ module _ {D : Type 0} (tells : Type 0) (leaves : D → DiskOf → Type 0) (left 
   pub stored : (past : List Command) (q : PlacesOf) (g h : HostOf) (o s : ℕ) (first mid end last : Log) (i j : JournalOf D) (c : Command)
       (e : Entry) (n : ℕ) (body : List ℕ) → Is past (book_of g o s first q i) → IsSameLog first mid → IsSameLog mid end
       → h.image ≡ (answer g.image c).host → last.history.entries ≡ end.history.entries ++ e ∷ []
-      → last.moments.items ≡ end.moments.items ++ n ∷ [] → n ≡ moment j.disk → last.doubts.items ≡ end.doubts.items
+      → last.moments.items ≡ end.moments.items ++ n ∷ [] → n ≡ law.moment j.disk → last.doubts.items ≡ end.doubts.items
       → e.command ≡ c → Tells e (answer g.image c) → j.doubt ≡ None → j.next ≡ i.next + 1
-      → moment i.disk ≤ moment j.disk → Rose (moment i.disk) (moment j.disk)
-      → ((bodies : List (List ℕ)) → Keeps tells leaves i first_head bodies
-      → Keeps tells leaves j first_head (bodies ++ body ∷ []))
-      → ((bodies : List (List ℕ)) → Keeps tells leaves i first_head bodies
-      → LeavesOnly moment left i.disk j.disk (IsWithOrWithout first_head bodies body))
+      → law.moment i.disk ≤ law.moment j.disk → Rose (law.moment i.disk) (law.moment j.disk)
+      → ((bodies : List (List ℕ)) → Keeps law i first_head bodies
+      → Keeps law j first_head (bodies ++ body ∷ []))
+      → ((bodies : List (List ℕ)) → Keeps law i first_head bodies
+      → LeavesOnly law i.disk j.disk (IsWithOrWithout first_head bodies body))
       → IsBodyOf c body → is_accepted (answer g.image c).reply ≡ true → Is past (book_of h o s last q j)
   stored past q g h o s first mid end last i j c e n body is one two image history moments time doubts command told none next later rose kept any of granted =
       let b : BookOf D = book_of g o s first q i in
@@ -99,20 +99,20 @@ module _ {D : Type 0} (tells : Type 0) (leaves : D → DiskOf → Type 0) (left 
       subst (Is past) (same_book (record b {
         host = (answer g.image e.command).host;
         history = b.history ++ e ∷ [];
-        moments = b.moments ++ moment j.disk ∷ [];
+        moments = b.moments ++ law.moment j.disk ∷ [];
         journal = j;
       }) (book_of h o s last q j) (image ∙ ap (λ (x : Command). (answer g.image x).host) back) refl
       (history ∙ ap (λ (es : List Entry). es ++ e ∷ []) (two.history ∙ one.history)) refl
       (moments ∙ (λ k. (two.moments ∙ one.moments) k ++ time k ∷ []))
       (doubts ∙ two.doubts ∙ one.doubts) refl refl)
-      (entered tells leaves left moment only_now past b j e body is none next as_told as_granted
+      (entered law only_now past b j e body is none next as_told as_granted
       (subst (Spells body) back of.spells) later rose kept any)
 
   -- the host refused the command, and its entry was added
   pub not_accepted : (past : List Command) (q : PlacesOf) (g h : HostOf) (o s : ℕ) (first mid last : Log) (i : JournalOf D) (c : Command)
       (e : Entry) (n : ℕ) → Is past (book_of g o s first q i) → IsSameLog first mid → h.image ≡ g.image
       → last.history.entries ≡ mid.history.entries ++ e ∷ [] → last.moments.items ≡ mid.moments.items ++ n ∷ []
-      → n ≡ moment i.disk → last.doubts.items ≡ mid.doubts.items → e.command ≡ c → Tells e (answer g.image c)
+      → n ≡ law.moment i.disk → last.doubts.items ≡ mid.doubts.items → e.command ≡ c → Tells e (answer g.image c)
       → i.doubt ≡ None → is_accepted (answer g.image c).reply ≡ false → Is past (book_of h o s last q i)
   not_accepted past q g h o s first mid last i c e n is one image history moments time doubts command told none denied =
       let b : BookOf D = book_of g o s first q i in
@@ -124,8 +124,8 @@ module _ {D : Type 0} (tells : Type 0) (leaves : D → DiskOf → Type 0) (left 
       subst (Is past) (same_book (record b {
         host = (answer g.image e.command).host;
         history = b.history ++ e ∷ [];
-        moments = b.moments ++ moment i.disk ∷ [];
+        moments = b.moments ++ law.moment i.disk ∷ [];
       }) (book_of h o s last q i) (image ∙ sym stays.host) refl
       (history ∙ ap (λ (es : List Entry). es ++ e ∷ []) one.history) refl
       (moments ∙ (λ k. one.moments k ++ time k ∷ [])) (doubts ∙ one.doubts) refl refl)
-      (refused tells leaves left moment only_now past b e is none as_told as_denied)
+      (refused law only_now past b e is none as_told as_denied)

@@ -16,7 +16,7 @@ use Rattle.sc_machine.specs.Histories.{IsLegal, Tells, replay}
 use Rattle.sc_machine.specs.Hosts.{empty_host}
 use Rattle.sc_machine.proofs.AcceptedLemmas.{accepted_append, accepted_more, after_append, after_counts, legal_accepted, legal_more, refused_changes_nothing, replay_append, replay_counts, replay_is_after}
 use Rattle.sc_dev.specs.Causes.{Rose}
-use Rattle.sc_dev.specs.Disks.{DiskOf}
+use Rattle.sc_dev.specs.Disks.{DiskLaw, DiskOf}
 use Rattle.sc_journal.specs.Journals.{IsAsDoubted, IsWithOrWithout, JournalOf, Keeps, StandsAt}
 use Rattle.sc_journal.specs.Stops.{LeavesOnly}
 use Rattle.sc_journal.specs.Texts.{Holds}
@@ -206,10 +206,10 @@ accepted_one e granted = ap (λ (b : Bool). if b then e.command ∷ [] else []) 
 accepted_none : (e : Entry) → is_accepted e.reply ≡ false → accepted_commands (e ∷ []) ≡ []
 accepted_none e denied = ap (λ (b : Bool). if b then e.command ∷ [] else []) denied
 
-module _ {D : Type 0} (tells : Type 0) (leaves : D → DiskOf → Type 0) (left : D → ℕ → DiskOf → Type 0) (moment : D → ℕ)
-    (only_now : (disk : D) (d : DiskOf) → moment disk < 2 ^ 64 - 1 → left disk (moment disk) d → leaves disk d) where
+module _ {D : Type 0} (law : DiskLaw D)
+    (only_now : (disk : D) (d : DiskOf) → law.moment disk < 2 ^ 64 - 1 → law.may_have_left disk (law.moment disk) d → law.may_leave disk d) where
   -- no call was made
-  pub unmoved : (disk : D) (P : DiskOf → Type 0) → ((d : DiskOf) → leaves disk d → P d) → LeavesOnly moment left disk disk P
+  pub unmoved : (disk : D) (P : DiskOf → Type 0) → ((d : DiskOf) → law.may_leave disk d → P d) → LeavesOnly law disk disk P
   unmoved disk P all = record {
     later = omega arith;
     each = λ small d was. all d (only_now disk d small was);
@@ -217,8 +217,8 @@ module _ {D : Type 0} (tells : Type 0) (leaves : D → DiskOf → Type 0) (left 
   }
 
   -- what holds of each image holds of more
-  pub leaves_more : (old new : D) (P Q : DiskOf → Type 0) → LeavesOnly moment left old new P → ((d : DiskOf) → P d → Q d)
-      → LeavesOnly moment left old new Q
+  pub leaves_more : (old new : D) (P Q : DiskOf → Type 0) → LeavesOnly law old new P → ((d : DiskOf) → P d → Q d)
+      → LeavesOnly law old new Q
   leaves_more old new P Q only wider = record {
     later = only.later;
     each = λ small d was. wider d (only.each small d was);
@@ -226,12 +226,12 @@ module _ {D : Type 0} (tells : Type 0) (leaves : D → DiskOf → Type 0) (left 
   }
 
   -- one call after another
-  pub leaves_both : (old mid new : D) (P : DiskOf → Type 0) → LeavesOnly moment left old mid P
-      → LeavesOnly moment left mid new P → LeavesOnly moment left old new P
+  pub leaves_both : (old mid new : D) (P : DiskOf → Type 0) → LeavesOnly law old mid P
+      → LeavesOnly law mid new P → LeavesOnly law old new P
   leaves_both old mid new P one two = record {
     later = omega (arith, one.later, two.later);
     each = λ small d was.
-        from_either (λ before. one.each small d before) (λ p. p) (two.before (moment old) d one.later was);
+        from_either (λ before. one.each small d before) (λ p. p) (two.before (law.moment old) d one.later was);
     before = λ t d early was. from_either (λ x. one.before t d early x) (λ p. inr p)
         (two.before t d (omega (arith, early, one.later)) was);
   }
@@ -240,16 +240,16 @@ module _ {D : Type 0} (tells : Type 0) (leaves : D → DiskOf → Type 0) (left 
 
   -- a book whose journal held these commands
   abbrev Is : List Command → BookOf D → Type 0
-  Is past b = IsBook tells leaves left moment past b
+  Is past b = IsBook law past b
 
   -- since each of these moments a stop leaves entries of the history
   abbrev Since : List Command → List Entry → List Doubt → List ℕ → D → Type 0
-  Since past h ds ms disk = (k m : ℕ) → slice_get ms k ≡ Some m → m < 2 ^ 64 - 1 → (d : DiskOf) → left disk m d
+  Since past h ds ms disk = (k m : ℕ) → slice_get ms k ≡ Some m → m < 2 ^ 64 - 1 → (d : DiskOf) → law.may_have_left disk m d
       → IsSince past h ds k d
 
   -- a call of which a stop leaves what the history allows
   since_later : (past : List Command) (h i : List Entry) (ds es : List Doubt) (ms : List ℕ) (old new : D)
-      (P : DiskOf → Type 0) → All (λ m. m ≤ moment old) ms → LeavesOnly moment left old new P → length ms ≡ suc (length h)
+      (P : DiskOf → Type 0) → All (λ m. m ≤ law.moment old) ms → LeavesOnly law old new P → length ms ≡ suc (length h)
       → ((k : ℕ) (d : DiskOf) → k ≤ length h → P d → IsSince past i es k d)
       → ((k : ℕ) (d : DiskOf) → IsSince past h ds k d → IsSince past i es k d)
       → Since past h ds ms old → Since past i es ms new
@@ -257,28 +257,28 @@ module _ {D : Type 0} (tells : Type 0) (leaves : D → DiskOf → Type 0) (left 
       let within = slice_get_within ms k m at in
       let few : k ≤ length h = omega (arith, within, long) in
       from_either (λ before. wider k d (since k m at small d before)) (λ now. during k d few now)
-      (only.before m d (at_place (λ x. x ≤ moment old) ms k m reached at) was)
+      (only.before m d (at_place (λ x. x ≤ law.moment old) ms k m reached at) was)
 
   -- the moment of the last entry
   since_push : (past : List Command) (h : List Entry) (ds : List Doubt) (ms : List ℕ) (disk : D)
-      → length ms ≡ length h → ((d : DiskOf) → leaves disk d → IsSince past h ds (length h) d)
-      → Since past h ds ms disk → Since past h ds (ms ++ moment disk ∷ []) disk
+      → length ms ≡ length h → ((d : DiskOf) → law.may_leave disk d → IsSince past h ds (length h) d)
+      → Since past h ds ms disk → Since past h ds (ms ++ law.moment disk ∷ []) disk
   since_push past h ds ms disk long now since = λ k m at small d was. from_either
       (λ there. since k m there small d was)
-      (λ last. let few : moment disk < 2 ^ 64 - 1 = omega (arith, small, last.1) in
-      let here : left disk (moment disk) d = subst (λ n. left disk n d) last.1 was in
+      (λ last. let few : law.moment disk < 2 ^ 64 - 1 = omega (arith, small, last.1) in
+      let here : law.may_have_left disk (law.moment disk) d = subst (λ n. law.may_have_left disk n d) last.1 was in
       subst (λ n. IsSince past h ds n d) (sym (last.0 ∙ long)) (now d (only_now disk d few here)))
-      (get_push ms (moment disk) k m at)
+      (get_push ms (law.moment disk) k m at)
 
   -- an image of a settled journal stands for all entries
-  pub holds_all : (past : List Command) (b : BookOf D) → Is past b → (all : HoldsAll tells leaves b.journal (past ++ accepted_commands b.history))
+  pub holds_all : (past : List Command) (b : BookOf D) → Is past b → (all : HoldsAll law b.journal (past ++ accepted_commands b.history))
       → (d : DiskOf) → Holds first_head all.bodies d.journal
       → StandsFor d (count_after past b.history (length b.history)) (host_after past b.history (length b.history))
   holds_all past b is all d holds = stands_all past b.history all.bodies d is.past_accepted is.legal all.spell holds
 
   -- and one with the body of another command for that too
   pub holds_more : (past : List Command) (b : BookOf D) → Is past b
-      → (all : HoldsAll tells leaves b.journal (past ++ accepted_commands b.history)) → (body : List ℕ) (c : Command) → Spells body c
+      → (all : HoldsAll law b.journal (past ++ accepted_commands b.history)) → (body : List ℕ) (c : Command) → Spells body c
       → is_accepted (answer b.host c).reply ≡ true → (d : DiskOf) → Holds first_head (all.bodies ++ body ∷ []) d.journal
       → StandsFor d (count_after past b.history (length b.history) + 1) (answer b.host c).host
   holds_more past b is all body c spells granted d holds =
@@ -306,7 +306,7 @@ module _ {D : Type 0} (tells : Type 0) (leaves : D → DiskOf → Type 0) (left 
 
   -- what a stop leaves while a doubt is taken back
   as_doubted : (past : List Command) (b : BookOf D) → Is past b
-      → (all : HoldsAll tells leaves b.journal (past ++ accepted_commands b.history)) → (o : Option (List ℕ)) → b.journal.doubt ≡ o
+      → (all : HoldsAll law b.journal (past ++ accepted_commands b.history)) → (o : Option (List ℕ)) → b.journal.doubt ≡ o
       → (d : DiskOf) (k : ℕ) → k ≤ length b.history → IsAsDoubted o first_head all.bodies d
       → IsSince past b.history b.doubts k d
   as_doubted past b is all None none d k few holds =
@@ -321,20 +321,20 @@ module _ {D : Type 0} (tells : Type 0) (leaves : D → DiskOf → Type 0) (left 
   moments_long : (past : List Command) (b : BookOf D) → Is past b → length (b.start ∷ b.moments) ≡ suc (length b.history)
   moments_long past b is = ap suc (rise_length b.start b.history b.moments is.rise)
 
-  pub during_settle : (past : List Command) (b : BookOf D) → Is past b → tells → (disk : D)
-      → ((bodies : List (List ℕ)) → Keeps tells leaves b.journal first_head bodies
-      → LeavesOnly moment left b.journal.disk disk (IsAsDoubted b.journal.doubt first_head bodies))
-      → LeavesOnly moment left b.journal.disk disk (IsAllOrDoubted past b)
+  pub during_settle : (past : List Command) (b : BookOf D) → Is past b → law.tells → (disk : D)
+      → ((bodies : List (List ℕ)) → Keeps law b.journal first_head bodies
+      → LeavesOnly law b.journal.disk disk (IsAsDoubted b.journal.doubt first_head bodies))
+      → LeavesOnly law b.journal.disk disk (IsAllOrDoubted past b)
   during_settle past b is told disk any =
       let all = is.stored told in
       leaves_more b.journal.disk disk _ _ (any all.bodies all.keeps)
       (λ d p. as_doubted past b is all b.journal.doubt refl d (length b.history) (omega arith) p)
 
-  pub during_store : (past : List Command) (b : BookOf D) → Is past b → tells → (disk : D) (body : List ℕ) (c : Command)
+  pub during_store : (past : List Command) (b : BookOf D) → Is past b → law.tells → (disk : D) (body : List ℕ) (c : Command)
       → Spells body c → is_accepted (answer b.host c).reply ≡ true
-      → ((bodies : List (List ℕ)) → Keeps tells leaves b.journal first_head bodies
-      → LeavesOnly moment left b.journal.disk disk (IsWithOrWithout first_head bodies body))
-      → LeavesOnly moment left b.journal.disk disk (IsAllOrMore past b c)
+      → ((bodies : List (List ℕ)) → Keeps law b.journal first_head bodies
+      → LeavesOnly law b.journal.disk disk (IsWithOrWithout first_head bodies body))
+      → LeavesOnly law b.journal.disk disk (IsAllOrMore past b c)
   during_store past b is told disk body c spells granted any =
       let all = is.stored told in
       leaves_more b.journal.disk disk _ _ (any all.bodies all.keeps)
@@ -344,25 +344,25 @@ module _ {D : Type 0} (tells : Type 0) (leaves : D → DiskOf → Type 0) (left 
 
   -- the parts of a call, one after another
   pub during_first : (past : List Command) (b : BookOf D) (c : Command) (disk : D)
-      → LeavesOnly moment left b.journal.disk disk (IsAllOrDoubted past b)
-      → LeavesOnly moment left b.journal.disk disk (IsDuring past b c)
+      → LeavesOnly law b.journal.disk disk (IsAllOrDoubted past b)
+      → LeavesOnly law b.journal.disk disk (IsDuring past b c)
   during_first past b c disk only = leaves_more b.journal.disk disk _ _ only
       (λ d p. from_either (λ all. inl all) (λ doubted. inr (inl doubted)) p)
 
   pub during_both : (past : List Command) (b m : BookOf D) (c : Command) (disk : D) → m ≡ record b { journal = m.journal }
-      → LeavesOnly moment left b.journal.disk m.journal.disk (IsAllOrDoubted past b)
-      → LeavesOnly moment left m.journal.disk disk (IsAllOrMore past m c)
-      → LeavesOnly moment left b.journal.disk disk (IsDuring past b c)
+      → LeavesOnly law b.journal.disk m.journal.disk (IsAllOrDoubted past b)
+      → LeavesOnly law m.journal.disk disk (IsAllOrMore past m c)
+      → LeavesOnly law b.journal.disk disk (IsDuring past b c)
   during_both past b m c disk same one two =
-      let as_before : LeavesOnly moment left m.journal.disk disk (IsAllOrMore past (record b { journal = m.journal }) c) =
-      subst (λ (x : BookOf D). LeavesOnly moment left m.journal.disk disk (IsAllOrMore past x c)) same two in
+      let as_before : LeavesOnly law m.journal.disk disk (IsAllOrMore past (record b { journal = m.journal }) c) =
+      subst (λ (x : BookOf D). LeavesOnly law m.journal.disk disk (IsAllOrMore past x c)) same two in
       leaves_both b.journal.disk m.journal.disk disk _ (during_first past b c m.journal.disk one)
       (leaves_more m.journal.disk disk _ _ as_before
       (λ d p. from_either (λ all. inl all) (λ more. inr (inr more)) p))
 
   -- where no call is made and nothing is in doubt, a stop leaves what was accepted
-  pub during_none : (past : List Command) (b : BookOf D) → Is past b → tells → b.journal.doubt ≡ None → (c : Command)
-      → LeavesOnly moment left b.journal.disk b.journal.disk (IsAllOrMore past b c)
+  pub during_none : (past : List Command) (b : BookOf D) → Is past b → law.tells → b.journal.doubt ≡ None → (c : Command)
+      → LeavesOnly law b.journal.disk b.journal.disk (IsAllOrMore past b c)
   during_none past b is told none c = unmoved b.journal.disk _ (λ d leaves_it.
       let all = is.stored told in
       let holds = subst (λ (o : Option (List ℕ)). StandsAt o first_head all.bodies d) none (all.keeps.images d leaves_it) in
@@ -378,10 +378,10 @@ module _ {D : Type 0} (tells : Type 0) (leaves : D → DiskOf → Type 0) (left 
 
   -- taking back a doubt, or failing to
   pub settled : (past : List Command) (b : BookOf D) (j : JournalOf D) → Is past b → j.next ≡ b.journal.next
-      → (j.doubt ≡ None) ⊎ (j.doubt ≡ b.journal.doubt) → moment b.journal.disk ≤ moment j.disk
-      → ((bodies : List (List ℕ)) → Keeps tells leaves b.journal first_head bodies → Keeps tells leaves j first_head bodies)
-      → ((bodies : List (List ℕ)) → Keeps tells leaves b.journal first_head bodies
-      → LeavesOnly moment left b.journal.disk j.disk (IsAsDoubted b.journal.doubt first_head bodies))
+      → (j.doubt ≡ None) ⊎ (j.doubt ≡ b.journal.doubt) → law.moment b.journal.disk ≤ law.moment j.disk
+      → ((bodies : List (List ℕ)) → Keeps law b.journal first_head bodies → Keeps law j first_head bodies)
+      → ((bodies : List (List ℕ)) → Keeps law b.journal first_head bodies
+      → LeavesOnly law b.journal.disk j.disk (IsAsDoubted b.journal.doubt first_head bodies))
       → Is past (record b { journal = j })
   settled past b j is next doubt later kept any = record {
     opened = is.opened;
@@ -410,10 +410,10 @@ module _ {D : Type 0} (tells : Type 0) (leaves : D → DiskOf → Type 0) (left 
 
   -- a fault that left a command in doubt
   pub failed : (past : List Command) (b : BookOf D) (j : JournalOf D) (x : Doubt) (body : List ℕ) → Is past b
-      → j.next ≡ b.journal.next → (j.doubt ≡ None) ⊎ (j.doubt ≡ Some body) → moment b.journal.disk ≤ moment j.disk
-      → ((bodies : List (List ℕ)) → Keeps tells leaves b.journal first_head bodies → Keeps tells leaves j first_head bodies)
-      → ((bodies : List (List ℕ)) → Keeps tells leaves b.journal first_head bodies
-      → LeavesOnly moment left b.journal.disk j.disk (IsWithOrWithout first_head bodies body))
+      → j.next ≡ b.journal.next → (j.doubt ≡ None) ⊎ (j.doubt ≡ Some body) → law.moment b.journal.disk ≤ law.moment j.disk
+      → ((bodies : List (List ℕ)) → Keeps law b.journal first_head bodies → Keeps law j first_head bodies)
+      → ((bodies : List (List ℕ)) → Keeps law b.journal first_head bodies
+      → LeavesOnly law b.journal.disk j.disk (IsWithOrWithout first_head bodies body))
       → x.before ≡ length b.history → Spells body x.command → is_accepted (answer b.host x.command).reply ≡ true
       → Is past (record b { doubts = b.doubts ++ x ∷ []; journal = j })
   failed past b j x body is next doubt later kept any last spells granted =
@@ -447,16 +447,16 @@ module _ {D : Type 0} (tells : Type 0) (leaves : D → DiskOf → Type 0) (left 
   -- an entry of an accepted command, whose body the journal holds
   pub entered : (past : List Command) (b : BookOf D) (j : JournalOf D) (e : Entry) (body : List ℕ) → Is past b
       → j.doubt ≡ None → j.next ≡ b.journal.next + 1 → Tells e (answer b.host e.command)
-      → is_accepted (answer b.host e.command).reply ≡ true → Spells body e.command → moment b.journal.disk ≤ moment j.disk
-      → Rose (moment b.journal.disk) (moment j.disk)
-      → ((bodies : List (List ℕ)) → Keeps tells leaves b.journal first_head bodies
-      → Keeps tells leaves j first_head (bodies ++ body ∷ []))
-      → ((bodies : List (List ℕ)) → Keeps tells leaves b.journal first_head bodies
-      → LeavesOnly moment left b.journal.disk j.disk (IsWithOrWithout first_head bodies body))
+      → is_accepted (answer b.host e.command).reply ≡ true → Spells body e.command → law.moment b.journal.disk ≤ law.moment j.disk
+      → Rose (law.moment b.journal.disk) (law.moment j.disk)
+      → ((bodies : List (List ℕ)) → Keeps law b.journal first_head bodies
+      → Keeps law j first_head (bodies ++ body ∷ []))
+      → ((bodies : List (List ℕ)) → Keeps law b.journal first_head bodies
+      → LeavesOnly law b.journal.disk j.disk (IsWithOrWithout first_head bodies body))
       → Is past (record b {
         host = (answer b.host e.command).host;
         history = b.history ++ e ∷ [];
-        moments = b.moments ++ moment j.disk ∷ [];
+        moments = b.moments ++ law.moment j.disk ∷ [];
         journal = j;
       })
   entered past b j e body is none next told granted spells later rose kept any =
@@ -491,8 +491,8 @@ module _ {D : Type 0} (tells : Type 0) (leaves : D → DiskOf → Type 0) (left 
           keeps = kept all.bodies all.keeps;
         };
         doubt = λ other some. let denied : ◌≡◌ {A = Option (List ℕ)} None (Some other) = sym none ∙ some in absurd (cc);
-        rise = rise_push b.start h b.moments e (moment b.journal.disk) (moment j.disk) is.rise is.reached later (λ _. rose);
-        reached = All-push (λ m. m ≤ moment j.disk) (b.start ∷ b.moments) (moment j.disk)
+        rise = rise_push b.start h b.moments e (law.moment b.journal.disk) (law.moment j.disk) is.rise is.reached later (λ _. rose);
+        reached = All-push (λ m. m ≤ law.moment j.disk) (b.start ∷ b.moments) (law.moment j.disk)
             (later_all (b.start ∷ b.moments) _ _ later is.reached) (omega arith);
         images = λ told. let all = is.stored told in
             since_push past i b.doubts (b.start ∷ b.moments) j.disk (moments_long past b is ∙ sym long)
@@ -513,7 +513,7 @@ module _ {D : Type 0} (tells : Type 0) (leaves : D → DiskOf → Type 0) (left 
       → Is past (record b {
         host = (answer b.host e.command).host;
         history = b.history ++ e ∷ [];
-        moments = b.moments ++ moment b.journal.disk ∷ [];
+        moments = b.moments ++ law.moment b.journal.disk ∷ [];
       })
   refused past b e is none told denied =
       let h = b.history in
@@ -541,9 +541,9 @@ module _ {D : Type 0} (tells : Type 0) (leaves : D → DiskOf → Type 0) (left 
           keeps = all.keeps;
         };
         doubt = λ other some. let denied : ◌≡◌ {A = Option (List ℕ)} None (Some other) = sym none ∙ some in absurd (cc);
-        rise = rise_push b.start h b.moments e (moment b.journal.disk) (moment b.journal.disk) is.rise is.reached (omega arith)
+        rise = rise_push b.start h b.moments e (law.moment b.journal.disk) (law.moment b.journal.disk) is.rise is.reached (omega arith)
             (λ granted. let both : true ≡ false = sym granted ∙ denied_told in absurd (cc));
-        reached = All-push (λ m. m ≤ moment b.journal.disk) (b.start ∷ b.moments) (moment b.journal.disk) is.reached (omega arith);
+        reached = All-push (λ m. m ≤ law.moment b.journal.disk) (b.start ∷ b.moments) (law.moment b.journal.disk) is.reached (omega arith);
         images = λ told. let all = is.stored told in
             since_push past i b.doubts (b.start ∷ b.moments) b.journal.disk (moments_long past b is ∙ sym long)
             (λ d leaves_it. let holds = subst (λ (o : Option (List ℕ)). StandsAt o first_head all.bodies d) none
@@ -556,12 +556,12 @@ module _ {D : Type 0} (tells : Type 0) (leaves : D → DiskOf → Type 0) (left 
   -- a journal that was opened, whose bodies spell commands that the host accepts in turn
   pub begun : (past : List Command) (bodies : List (List ℕ)) (j : JournalOf D) → AreAccepted empty_host past
       → Spell bodies past → j.doubt ≡ None → j.next ≡ 1 + length bodies
-      → (tells → Keeps tells leaves j first_head bodies)
+      → (law.tells → Keeps law j first_head bodies)
       → Is past (record {
         host = after empty_host past;
         opened = length past;
         history = [];
-        start = moment j.disk;
+        start = law.moment j.disk;
         moments = [];
         doubts = [];
         claims = [];
@@ -579,7 +579,7 @@ module _ {D : Type 0} (tells : Type 0) (leaves : D → DiskOf → Type 0) (left 
         stored = λ told. record { bodies = bodies; spell = spelled; keeps = keeps told };
         doubt = λ other some. let denied : ◌≡◌ {A = Option (List ℕ)} None (Some other) = sym none ∙ some in absurd (cc);
         rise = tt;
-        reached = All-cons (λ m. m ≤ moment j.disk) (moment j.disk) [] (omega arith) (λ i d within. omega (arith, within));
+        reached = All-cons (λ m. m ≤ law.moment j.disk) (law.moment j.disk) [] (omega arith) (λ i d within. omega (arith, within));
         images = λ told. since_push past [] [] [] j.disk refl
             (λ d leaves_it. let holds = subst (λ (o : Option (List ℕ)). StandsAt o first_head bodies d) none
             ((keeps told).images d leaves_it) in

@@ -11,7 +11,7 @@ use Rattle.sc_machine.specs.Cues.{cue_of, is_ready}
 use Rattle.sc_machine.specs.Hosts.{chart_named}
 use Rattle.sc_core.specs.Inputs.{IsInput, IsInputAt, IsInputOf}
 use Rattle.sc_core.specs.declared.inputs.TurnInput.{TurnInput}
-use Rattle.sc_dev.specs.Disks.{DiskOf}
+use Rattle.sc_dev.specs.Disks.{DiskLaw, DiskOf}
 use Rattle.sc_law.specs.Fitting.{Fits, HasCue}
 use Rattle.sc_law.specs.Legality.{legal_fault}
 use Rattle.sc_types.specs.declared.chart.Chart.{Chart}
@@ -215,9 +215,9 @@ ticket_present chart_of g place s i there is =
 
 -- ---- a book goes on as its claims change
 
-module _ {D : Type 0} (tells : Type 0) (leaves : D → DiskOf → Type 0) (left : D → ℕ → DiskOf → Type 0) (moment : D → ℕ) where
-  pub is_claimed : (past : List Command) (b : BookOf D) (claims : List ℕ) → IsBook tells leaves left moment past b
-      → IsBook tells leaves left moment past (record b { claims = claims })
+module _ {D : Type 0} (law : DiskLaw D) where
+  pub is_claimed : (past : List Command) (b : BookOf D) (claims : List ℕ) → IsBook law past b
+      → IsBook law past (record b { claims = claims })
   is_claimed past b claims is = record {
     opened = is.opened;
     past_accepted = is.past_accepted;

@@ -4,7 +4,7 @@ use Rattle.std.proofs.lemmas.List.{append-nil}
 use Rattle.std.specs.Result.{MatchResult}
 use Rattle.sc_book.specs.Images.{Spell, StandsFor}
 use Rattle.sc_book.specs.Openings.{HasOtherFirst, IsBadAt, IsFirstBad, IsOpened, IsRedone, IsReplayed, NamesNoPlace}
-use Rattle.sc_book.proofs.BookLemmas.{begun, length_spell, spell_push}
+use Rattle.sc_book.proofs.BookLemmas.{begun, length_spell, spell_push, stands}
 use Rattle.sc_book.specs.Books.{IsBook}
 use Rattle.sc_book.specs.Keeping.{book_of}
 use Rattle.sc_book.specs.declared.fault.OpenFault.{OpenFault}
@@ -16,9 +16,9 @@ use Rattle.sc_machine.specs.Accepted.{AreAccepted, after, is_accepted}
 use Rattle.sc_machine.specs.Commands.{answer}
 use Rattle.sc_machine.specs.Hosts.{empty_host}
 use Rattle.sc_core.specs.HostStates.{HostOf}
-use Rattle.sc_dev.specs.Disks.{DiskOf}
+use Rattle.sc_dev.specs.Disks.{DiskLaw, DiskOf}
 use Rattle.sc_journal.specs.Journals.{JournalOf, Keeps, StandsAt}
-use Rattle.sc_journal.specs.Texts.{HeadOf}
+use Rattle.sc_journal.specs.Texts.{HeadOf, Holds}
 use Rattle.sc_machine.proofs.AcceptedLemmas.{accepted_more, after_append, after_counts}
 use Rattle.sc_rooms.specs.Rooms.{PlacesOf}
 use Rattle.sc_types.specs.declared.command.Command.{Command}
@@ -32,6 +32,11 @@ both_ways (Err e) P Q ok err = err
 pub ok_more : {A E : Type 0} (r : Result A E) (P Q : A → Type 0) → ((a : A) → P a → Q a) → IfOk r P → IfOk r Q
 ok_more (Ok a) P Q more ok = more a ok
 ok_more (Err e) P Q more ok = tt
+
+pub ok_both : {A E : Type 0} (r : Result A E) (P Q R : A → Type 0) → ((a : A) → P a → Q a → R a) → IfOk r P → IfOk r Q
+    → IfOk r R
+ok_both (Ok a) P Q R more one two = more a one two
+ok_both (Err e) P Q R more one two = tt
 
 pub err_more : {A E : Type 0} (r : Result A E) (P Q : E → Type 0) → ((e : E) → P e → Q e) → IfErr r P → IfErr r Q
 err_more (Ok a) P Q more err = tt
@@ -165,31 +170,31 @@ stands_same d n opened g h s r long =
           ∙ ap (λ (k : HostImage). after k s.commands) (sym s.is_base.empty) ∙ sym s.host,
     )
 
-module _ {D : Type 0} (tells : Type 0) (leaves : D → DiskOf → Type 0) (left : D → ℕ → DiskOf → Type 0) (moment : D → ℕ)
-    (only_now : (disk : D) (d : DiskOf) → moment disk < 2 ^ 64 - 1 → left disk (moment disk) d → leaves disk d) where
+module _ {D : Type 0} (law : DiskLaw D)
+    (only_now : (disk : D) (d : DiskOf) → law.moment disk < 2 ^ 64 - 1 → law.may_have_left disk (law.moment disk) d → law.may_leave disk d) where
   -- a journal that was opened, and the host after its bodies
   pub begun_as : (bodies : List (List ℕ)) (h : HostOf) (n s first : ℕ) (log : Log) (q : PlacesOf) (j : JournalOf D)
-      → IsReplayed bodies h.image → n ≡ length bodies → s ≡ moment j.disk → log.history.entries ≡ [] → log.moments.items ≡ []
+      → IsReplayed bodies h.image → n ≡ length bodies → s ≡ law.moment j.disk → log.history.entries ≡ [] → log.moments.items ≡ []
       → log.doubts.items ≡ [] → q.places ≡ [] → j.doubt ≡ None → first ≡ 1 → j.next ≡ first + length bodies
-      → (tells → Keeps tells leaves j (record { format = 1; first = first }) bodies)
-      → IsOpened tells leaves left moment (book_of h n s log q j)
+      → (law.tells → Keeps law j (record { format = 1; first = first }) bodies)
+      → IsOpened law (book_of h n s log q j)
   begun_as bodies h n s first log q j r long start history moments doubts claims none one next keeps =
       let count = length_spell bodies r.commands r.spell in
-      let head : tells → Keeps tells leaves j (record { format = 1; first = 1 }) bodies =
-      λ told. subst (λ k. Keeps tells leaves j (record { format = 1; first = k }) bodies) one (keeps told) in
+      let head : law.tells → Keeps law j (record { format = 1; first = 1 }) bodies =
+      λ told. subst (λ k. Keeps law j (record { format = 1; first = k }) bodies) one (keeps told) in
       record {
         past = r.commands;
-        book = subst (IsBook tells leaves left moment r.commands) (same_book (record {
+        book = subst (IsBook law r.commands) (same_book (record {
           host = after empty_host r.commands;
           opened = length r.commands;
           history = [];
-          start = moment j.disk;
+          start = law.moment j.disk;
           moments = [];
           doubts = [];
           claims = [];
           journal = j;
         }) (book_of h n s log q j) r.host (long ∙ count) history start moments doubts claims refl)
-            (begun tells leaves left moment only_now r.commands bodies j r.accepted r.spell none
+            (begun law only_now r.commands bodies j r.accepted r.spell none
             (next ∙ ap (λ k. k + length bodies) one) head);
         history = history;
         doubts = doubts;
@@ -197,9 +202,20 @@ module _ {D : Type 0} (tells : Type 0) (leaves : D → DiskOf → Type 0) (left 
         start = start;
       }
 
+  -- what is read of a journal whose first number is 1 stands for the host after its bodies
+  pub reads_as : (j : JournalOf D) (reads : DiskOf) (first n : ℕ) (bodies : List (List ℕ)) (h : HostImage)
+      → Keeps law j (record { format = 1; first = first }) bodies → j.doubt ≡ None → law.may_leave j.disk reads → first ≡ 1
+      → IsReplayed bodies h → n ≡ length bodies → StandsFor reads n h
+  reads_as j reads first n bodies h keeps none left one r long =
+      let holds : Holds (record { format = 1; first = first }) bodies reads.journal =
+      subst (λ (o : Option (List ℕ)). StandsAt o (record { format = 1; first = first }) bodies reads) none (keeps.images reads left) in
+      stands reads bodies r.commands n h
+      (subst (λ (k : ℕ). Holds (record { format = 1; first = k }) bodies reads.journal) one holds)
+      r.spell r.accepted (long ∙ length_spell bodies r.commands r.spell) r.host
+
   -- the text of a journal whose first number is another than 1
-  pub other_first : (j : JournalOf D) (reads : DiskOf) (head : HeadOf) (bodies : List (List ℕ)) → Keeps tells leaves j head bodies
-      → j.doubt ≡ None → leaves j.disk reads → head.first ≢ 1 → HasOtherFirst reads.journal
+  pub other_first : (j : JournalOf D) (reads : DiskOf) (head : HeadOf) (bodies : List (List ℕ)) → Keeps law j head bodies
+      → j.doubt ≡ None → law.may_leave j.disk reads → head.first ≢ 1 → HasOtherFirst reads.journal
   other_first j reads head bodies keeps none stands other = record {
     head = head;
     bodies = bodies;

@@ -10,7 +10,7 @@ use Rattle.sc_machine.specs.Commands.{answer}
 use Rattle.sc_machine.specs.Histories.{IsLegal, replay}
 use Rattle.sc_machine.specs.Hosts.{empty_host}
 use Rattle.sc_dev.specs.Causes.{Rose}
-use Rattle.sc_dev.specs.Disks.{DiskOf}
+use Rattle.sc_dev.specs.Disks.{DiskLaw, DiskOf}
 use Rattle.sc_journal.specs.Journals.{JournalOf, Keeps}
 use Rattle.sc_journal.specs.Texts.{HeadOf}
 use Rattle.sc_types.specs.declared.command.Command.{Command}
@@ -74,11 +74,11 @@ abbrev pub first_head : HeadOf
 first_head = record { format = 1; first = 1 }
 
 -- the journal holds these commands, at every stop
-pub record HoldsAll {D : Type 0} (tells : Type 0) (may_leave : D → DiskOf → Type 0) (j : JournalOf D)
+pub record HoldsAll {D : Type 0} (law : DiskLaw D) (j : JournalOf D)
     (commands : List Command) : Type 0 where
   pub bodies : List (List ℕ)
   pub spell : Spell bodies commands
-  pub keeps : Keeps tells may_leave j first_head bodies
+  pub keeps : Keeps law j first_head bodies
 
 -- the command that a fault left in doubt in the journal is the last of those that are kept, and no entry followed it
 pub record IsLastDoubt {D : Type 0} (b : BookOf D) (body : List ℕ) : Type 0 where
@@ -89,24 +89,22 @@ pub record IsLastDoubt {D : Type 0} (b : BookOf D) (body : List ℕ) : Type 0 wh
   pub accepted : is_accepted (answer b.host doubt.command).reply ≡ true
 
 -- A book whose journal held these commands at the opening.
-pub record IsBook {D : Type 0} (tells : Type 0) (may_leave : D → DiskOf → Type 0)
-    (may_have_left : D → ℕ → DiskOf → Type 0) (moment : D → ℕ) (past : List Command) (b : BookOf D) : Type 0 where
+pub record IsBook {D : Type 0} (law : DiskLaw D) (past : List Command) (b : BookOf D) : Type 0 where
   pub opened : b.opened ≡ length past
   pub past_accepted : AreAccepted empty_host past
   pub legal : IsLegal (opening past) b.history
   pub host : b.host ≡ replay (opening past) b.history
   pub next : b.journal.next ≡ length past + length (accepted_commands b.history) + 1
-  pub stored : tells → HoldsAll tells may_leave b.journal (past ++ accepted_commands b.history)
+  pub stored : law.tells → HoldsAll law b.journal (past ++ accepted_commands b.history)
   pub doubt : (body : List ℕ) → b.journal.doubt ≡ Some body → IsLastDoubt b body
   -- the moments of the opening and of the entries
   pub rise : Rise b.start b.history b.moments
-  pub reached : All (λ m. m ≤ moment b.journal.disk) (b.start ∷ b.moments)
+  pub reached : All (λ m. m ≤ law.moment b.journal.disk) (b.start ∷ b.moments)
   -- Since each of these moments a stop leaves what was accepted until then, and what was accepted later in part.
-  pub images : tells → (k m : ℕ) → slice_get (b.start ∷ b.moments) k ≡ Some m → m < 2 ^ 64 - 1
-      → (d : DiskOf) → may_have_left b.journal.disk m d → IsSince past b.history b.doubts k d
+  pub images : law.tells → (k m : ℕ) → slice_get (b.start ∷ b.moments) k ≡ Some m → m < 2 ^ 64 - 1
+      → (d : DiskOf) → law.may_have_left b.journal.disk m d → IsSince past b.history b.doubts k d
 
 -- a book whose journal held some commands at the opening
-pub record IsSome {D : Type 0} (tells : Type 0) (may_leave : D → DiskOf → Type 0)
-    (may_have_left : D → ℕ → DiskOf → Type 0) (moment : D → ℕ) (b : BookOf D) : Type 0 where
+pub record IsSome {D : Type 0} (law : DiskLaw D) (b : BookOf D) : Type 0 where
   pub past : List Command
-  pub is : IsBook tells may_leave may_have_left moment past b
+  pub is : IsBook law past b

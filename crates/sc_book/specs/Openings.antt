@@ -8,20 +8,19 @@ use Rattle.sc_codec.specs.Bodies.{Spells}
 use Rattle.sc_machine.specs.Accepted.{AreAccepted, after, is_accepted}
 use Rattle.sc_machine.specs.Commands.{answer}
 use Rattle.sc_machine.specs.Hosts.{empty_host}
-use Rattle.sc_dev.specs.Disks.{DiskOf}
+use Rattle.sc_dev.specs.Disks.{DiskLaw, DiskOf}
 use Rattle.sc_journal.specs.Texts.{HeadOf, Holds, held}
 use Rattle.sc_types.specs.declared.command.Command.{Command}
 use Rattle.sc_types.specs.declared.host.HostImage.{HostImage}
 
 -- a book with no entries yet
-pub record IsOpened {D : Type 0} (tells : Type 0) (may_leave : D → DiskOf → Type 0)
-    (may_have_left : D → ℕ → DiskOf → Type 0) (moment : D → ℕ) (b : BookOf D) : Type 0 where
+pub record IsOpened {D : Type 0} (law : DiskLaw D) (b : BookOf D) : Type 0 where
   pub past : List Command
-  pub book : IsBook tells may_leave may_have_left moment past b
+  pub book : IsBook law past b
   pub history : b.history ≡ []
   pub doubts : b.doubts ≡ []
   pub claims : b.claims ≡ []
-  pub start : b.start ≡ moment b.journal.disk
+  pub start : b.start ≡ law.moment b.journal.disk
 
 -- the disk failed, or memory was wanting
 abbrev pub NamesNoPlace : OpenFault → Type 0

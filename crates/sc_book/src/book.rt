@@ -48,7 +48,7 @@ impl<'e, E: Engine, D: Disk> Model for Book<'e, E, D> {
 
     ghost view = { λ b. book_of b.host b.opened b.start b.log b.claims b.journal };
 
-    ghost invariant = { λ b. IsSome D.tells D.may_leave D.may_have_left D.moment
+    ghost invariant = { λ b. IsSome D.law
         (book_of b.host b.opened b.start b.log b.claims b.journal) };
 }
 
@@ -61,7 +61,7 @@ impl<'e, E: Engine, D: Disk> Book<'e, E, D> {
     /// The host as it stands.
     pub fn host(&self) -> &HostState<E>
         ensures host { result.now.image ≡ self.now.host }
-        ensures book { IsSome D.tells D.may_leave D.may_have_left D.moment self.now }
+        ensures book { IsSome D.law self.now }
     {
         &self.host
     }

@@ -44,16 +44,16 @@ impl<'e, E: Engine, D: Disk> Book<'e, E, D> {
 
         // only where the disk's faults rose in this call
         ensures disk { result ≡ Err CallFault.Disk
-            → Rose (D.faults self.old.journal.disk) (D.faults self.new.journal.disk) }
-        ensures later { D.faults self.old.journal.disk ≤ D.faults self.new.journal.disk }
-        ensures same { D.identity self.new.journal.disk ≡ D.identity self.old.journal.disk }
+            → Rose (D.law.faults self.old.journal.disk) (D.law.faults self.new.journal.disk) }
+        ensures later { D.law.faults self.old.journal.disk ≤ D.law.faults self.new.journal.disk }
+        ensures fine { result ≢ Err CallFault.Disk
+            → D.law.faults self.new.journal.disk ≡ D.law.faults self.old.journal.disk }
+        ensures same { D.law.identity self.new.journal.disk ≡ D.law.identity self.old.journal.disk }
 
         // the book goes on, and what a stop leaves
-        ensures kept { (past : List CommandOf) → IsBook D.tells D.may_leave D.may_have_left D.moment past self.old
-            → IsBook D.tells D.may_leave D.may_have_left D.moment past self.new }
-        ensures any_moment { D.tells → (past : List CommandOf)
-            → IsBook D.tells D.may_leave D.may_have_left D.moment past self.old
-            → LeavesOnly D.moment D.may_have_left self.old.journal.disk self.new.journal.disk
+        ensures kept { (past : List CommandOf) → IsBook D.law past self.old → IsBook D.law past self.new }
+        ensures any_moment { D.law.tells → (past : List CommandOf) → IsBook D.law past self.old
+            → LeavesOnly D.law self.old.journal.disk self.new.journal.disk
             (IsDuring past self.old command) }
     {
         self.settle()?;
@@ -67,13 +67,12 @@ impl<'e, E: Engine, D: Disk> Book<'e, E, D> {
         ensures book { self.new ≡ record self.old { journal = self.new.journal } }
         ensures end { self.new.journal.end ≡ self.old.journal.end }
         ensures next { self.new.journal.next ≡ self.old.journal.next }
-        ensures cause { HasCause (D.faults self.old.journal.disk) (D.faults self.new.journal.disk) result }
-        ensures same { D.identity self.new.journal.disk ≡ D.identity self.old.journal.disk }
-        ensures kept { (past : List CommandOf) → IsBook D.tells D.may_leave D.may_have_left D.moment past self.old
-            → IsBook D.tells D.may_leave D.may_have_left D.moment past self.new }
-        ensures any_moment { D.tells → (past : List CommandOf)
-            → IsBook D.tells D.may_leave D.may_have_left D.moment past self.old
-            → LeavesOnly D.moment D.may_have_left self.old.journal.disk self.new.journal.disk
+        ensures cause { HasCause (D.law.faults self.old.journal.disk) (D.law.faults self.new.journal.disk) result }
+        ensures fine { OnOk result (D.law.faults self.new.journal.disk ≡ D.law.faults self.old.journal.disk) }
+        ensures same { D.law.identity self.new.journal.disk ≡ D.law.identity self.old.journal.disk }
+        ensures kept { (past : List CommandOf) → IsBook D.law past self.old → IsBook D.law past self.new }
+        ensures any_moment { D.law.tells → (past : List CommandOf) → IsBook D.law past self.old
+            → LeavesOnly D.law self.old.journal.disk self.new.journal.disk
             (IsAllOrDoubted past self.old) }
     {
         self.journal.settle()?;
@@ -101,14 +100,14 @@ impl<'e, E: Engine, D: Disk> Book<'e, E, D> {
         ensures fits { result ≡ Err CallFault.Full → length (body_of command) ≤ most_body }
         ensures grows { Grows self.old self.new }
         ensures disk { result ≡ Err CallFault.Disk
-            → Rose (D.faults self.old.journal.disk) (D.faults self.new.journal.disk) }
-        ensures later { D.faults self.old.journal.disk ≤ D.faults self.new.journal.disk }
-        ensures same { D.identity self.new.journal.disk ≡ D.identity self.old.journal.disk }
-        ensures kept { (past : List CommandOf) → IsBook D.tells D.may_leave D.may_have_left D.moment past self.old
-            → IsBook D.tells D.may_leave D.may_have_left D.moment past self.new }
-        ensures any_moment { D.tells → (past : List CommandOf)
-            → IsBook D.tells D.may_leave D.may_have_left D.moment past self.old
-            → LeavesOnly D.moment D.may_have_left self.old.journal.disk self.new.journal.disk
+            → Rose (D.law.faults self.old.journal.disk) (D.law.faults self.new.journal.disk) }
+        ensures later { D.law.faults self.old.journal.disk ≤ D.law.faults self.new.journal.disk }
+        ensures fine { result ≢ Err CallFault.Disk
+            → D.law.faults self.new.journal.disk ≡ D.law.faults self.old.journal.disk }
+        ensures same { D.law.identity self.new.journal.disk ≡ D.law.identity self.old.journal.disk }
+        ensures kept { (past : List CommandOf) → IsBook D.law past self.old → IsBook D.law past self.new }
+        ensures any_moment { D.law.tells → (past : List CommandOf) → IsBook D.law past self.old
+            → LeavesOnly D.law self.old.journal.disk self.new.journal.disk
             (IsAllOrMore past self.old command) }
     {
         // Its limit bounds how many commands the host counts.

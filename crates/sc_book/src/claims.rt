@@ -41,8 +41,7 @@ impl<'e, E: Engine, D: Disk> Book<'e, E, D> {
         ensures ok { IfOk result (Claims budget self.old self.new) }
         ensures err { OnErr result (self.new ≡ self.old) }
         ensures same { self.new ≡ record self.old { claims = self.new.claims } }
-        ensures kept { (past : List Command) → IsBook D.tells D.may_leave D.may_have_left D.moment past self.old
-            → IsBook D.tells D.may_leave D.may_have_left D.moment past self.new }
+        ensures kept { (past : List Command) → IsBook D.law past self.old → IsBook D.law past self.new }
 
         // whatever a host becomes, the session stays ready until a step of it is accepted
         ensures stays { IfOk result (λ ticket. IfSome ticket (λ t. (g : HostImage) → StaysReady g t.place)) }
@@ -82,8 +81,7 @@ impl<'e, E: Engine, D: Disk> Book<'e, E, D> {
         ensures ok { IfOk result (Claims budget self.old self.new) }
         ensures err { OnErr result (self.new ≡ self.old) }
         ensures same { self.new ≡ record self.old { claims = self.new.claims } }
-        ensures kept { (past : List Command) → IsBook D.tells D.may_leave D.may_have_left D.moment past self.old
-            → IsBook D.tells D.may_leave D.may_have_left D.moment past self.new }
+        ensures kept { (past : List Command) → IsBook D.law past self.old → IsBook D.law past self.new }
         ensures stays { IfOk result (λ ticket. IfSome ticket (λ t. (g : HostImage) → StaysReady g t.place)) }
     {
         self.claims.reserve(1)?;
@@ -101,8 +99,7 @@ impl<'e, E: Engine, D: Disk> Book<'e, E, D> {
     pub fn abandon(&mut self, ticket: Ticket<E>)
         ensures claims { self.new.claims ≡ without_claim ticket.place self.old.claims }
         ensures same { self.new ≡ record self.old { claims = self.new.claims } }
-        ensures kept { (past : List Command) → IsBook D.tells D.may_leave D.may_have_left D.moment past self.old
-            → IsBook D.tells D.may_leave D.may_have_left D.moment past self.new }
+        ensures kept { (past : List Command) → IsBook D.law past self.old → IsBook D.law past self.new }
     {
         self.end_claim(ticket.into_place());
     }
@@ -111,8 +108,7 @@ impl<'e, E: Engine, D: Disk> Book<'e, E, D> {
     pub(crate) fn end_claim(&mut self, place: usize)
         ensures claims { self.new.claims ≡ without_claim place self.old.claims }
         ensures same { self.new ≡ record self.old { claims = self.new.claims } }
-        ensures kept { (past : List Command) → IsBook D.tells D.may_leave D.may_have_left D.moment past self.old
-            → IsBook D.tells D.may_leave D.may_have_left D.moment past self.new }
+        ensures kept { (past : List Command) → IsBook D.law past self.old → IsBook D.law past self.new }
     {
         self.claims.remove(place);
     }

@@ -1,4 +1,4 @@
-ghost use Rattle.std.specs.Prelude.{◌≡◌, ◌<◌, ◌≤◌, Err, IfOk, OnOk, OnErr, IfErr, List, length};
+ghost use Rattle.std.specs.Prelude.{◌≡◌, ◌≢◌, ◌<◌, ◌≤◌, Err, IfOk, OnOk, OnErr, IfErr, List, length};
 ghost use Rattle.sc_book.specs.Books.{IsBook};
 ghost use Rattle.sc_book.specs.Claims.{step_at, without_claim};
 ghost use Rattle.sc_book.specs.Receipts.{Acknowledges, Doubts, Grows, HasNoRoom, IsDuring, IsUnanswered, most_body};
@@ -54,16 +54,16 @@ impl<'e, E: Engine, D: Disk> Book<'e, E, D> {
 
         // only where the disk's faults rose in this call
         ensures disk { result ≡ Err CallFault.Disk
-            → Rose (D.faults self.old.journal.disk) (D.faults self.new.journal.disk) }
-        ensures later { D.faults self.old.journal.disk ≤ D.faults self.new.journal.disk }
-        ensures same { D.identity self.new.journal.disk ≡ D.identity self.old.journal.disk }
+            → Rose (D.law.faults self.old.journal.disk) (D.law.faults self.new.journal.disk) }
+        ensures later { D.law.faults self.old.journal.disk ≤ D.law.faults self.new.journal.disk }
+        ensures fine { result ≢ Err CallFault.Disk
+            → D.law.faults self.new.journal.disk ≡ D.law.faults self.old.journal.disk }
+        ensures same { D.law.identity self.new.journal.disk ≡ D.law.identity self.old.journal.disk }
 
         // the book goes on, and what a stop leaves
-        ensures kept { (past : List CommandOf) → IsBook D.tells D.may_leave D.may_have_left D.moment past self.old
-            → IsBook D.tells D.may_leave D.may_have_left D.moment past self.new }
-        ensures any_moment { D.tells → (past : List CommandOf)
-            → IsBook D.tells D.may_leave D.may_have_left D.moment past self.old
-            → LeavesOnly D.moment D.may_have_left self.old.journal.disk self.new.journal.disk
+        ensures kept { (past : List CommandOf) → IsBook D.law past self.old → IsBook D.law past self.new }
+        ensures any_moment { D.law.tells → (past : List CommandOf) → IsBook D.law past self.old
+            → LeavesOnly D.law self.old.journal.disk self.new.journal.disk
             (IsDuring past self.old (step_at self.old.host ticket.place)) }
     {
         let place = ticket.into_place();

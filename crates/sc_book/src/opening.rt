@@ -42,6 +42,7 @@ impl<D: Disk> NotOpened<D> {
 
 fn fault_of(fault: JournalFault) -> OpenFault
     ensures disk { result ≡ OpenFault.Disk → fault ≡ JournalFault.Disk }
+    ensures from_disk { fault ≡ JournalFault.Disk → result ≡ OpenFault.Disk }
     ensures damaged { (at : ℕ) → result ≡ OpenFault.Damaged at → fault ≡ JournalFault.Damaged at }
     ensures bad { (number : ℕ) → result ≢ OpenFault.BadEntry number }
 {
@@ -140,33 +141,38 @@ impl<'e, E: Engine, D: Disk> Book<'e, E, D> {
     /// Opens the journal of a disk, and makes the commands that it holds once more. The disk comes back where that
     /// fails.
     pub fn open(alloc: Global, engine: &'e E, disk: D) -> Result<Book<'e, E, D>, NotOpened<D>>
-        ensures opened { IfOk result (IsOpened D.tells D.may_leave D.may_have_left D.moment) }
+        ensures opened { IfOk result (IsOpened D.law) }
+
+        // what the disk reads as stands for what is opened
+        ensures reads { D.law.tells → IfOk result (λ b. StandsFor (D.law.reads disk) b.opened b.host) }
 
         // a disk that stands for so many commands and a host is opened as such
-        ensures stands { D.tells → (n : ℕ) (g : HostImage) → StandsFor (D.reads disk) n g
+        ensures stands { D.law.tells → (n : ℕ) (g : HostImage) → StandsFor (D.law.reads disk) n g
             → MatchResult result (λ b. (b.opened ≡ n) × (b.host ≡ g)) (λ f. NamesNoPlace f.fault) }
 
         // exactly where the text is no journal's, or its first number is another than 1
-        ensures damaged { D.tells → IfErr result (λ f. (at : ℕ) → f.fault ≡ OpenFault.Damaged at
-            → IsDamagedAt (D.reads disk).journal at) }
+        ensures damaged { D.law.tells → IfErr result (λ f. (at : ℕ) → f.fault ≡ OpenFault.Damaged at
+            → IsDamagedAt (D.law.reads disk).journal at) }
 
         // exactly the first body that spells no command, or whose command is refused there
-        ensures bad { D.tells → IfErr result (λ f. (n : ℕ) → f.fault ≡ OpenFault.BadEntry n
-            → HasFirstBad (D.reads disk).journal n) }
+        ensures bad { D.law.tells → IfErr result (λ f. (n : ℕ) → f.fault ≡ OpenFault.BadEntry n
+            → HasFirstBad (D.law.reads disk).journal n) }
 
         // only where the disk's faults rose
-        ensures disk { IfErr result (λ f. f.fault ≡ OpenFault.Disk → Rose (D.faults disk) (D.faults f.disk)) }
-        ensures later { MatchResult result (λ b. D.faults disk ≤ D.faults b.journal.disk)
-            (λ f. D.faults disk ≤ D.faults f.disk) }
+        ensures disk { IfErr result (λ f. f.fault ≡ OpenFault.Disk → Rose (D.law.faults disk) (D.law.faults f.disk)) }
+        ensures later { MatchResult result (λ b. D.law.faults disk ≤ D.law.faults b.journal.disk)
+            (λ f. D.law.faults disk ≤ D.law.faults f.disk) }
+
+        ensures fine { MatchResult result (λ b. D.law.faults b.journal.disk ≡ D.law.faults disk)
+            (λ f. f.fault ≢ OpenFault.Disk → D.law.faults f.disk ≡ D.law.faults disk) }
 
         // a stop leaves what it left before
-        ensures images { MatchResult result (λ b. Within (D.may_leave disk) (D.may_leave b.journal.disk))
-            (λ f. Within (D.may_leave disk) (D.may_leave f.disk)) }
-        ensures passes { MatchResult result
-            (λ b. Passes D.moment D.may_have_left disk b.journal.disk (D.may_leave disk))
-            (λ f. Passes D.moment D.may_have_left disk f.disk (D.may_leave disk)) }
-        ensures same { MatchResult result (λ b. D.identity b.journal.disk ≡ D.identity disk)
-            (λ f. D.identity f.disk ≡ D.identity disk) }
+        ensures images { MatchResult result (λ b. Within (D.law.may_leave disk) (D.law.may_leave b.journal.disk))
+            (λ f. Within (D.law.may_leave disk) (D.law.may_leave f.disk)) }
+        ensures passes { MatchResult result (λ b. Passes D.law disk b.journal.disk (D.law.may_leave disk))
+            (λ f. Passes D.law disk f.disk (D.law.may_leave disk)) }
+        ensures same { MatchResult result (λ b. D.law.identity b.journal.disk ≡ D.law.identity disk)
+            (λ f. D.law.identity f.disk ≡ D.law.identity disk) }
     {
         match Journal::open(alloc, disk) {
             Ok(opened) => Book::begin(alloc, engine, opened),
@@ -188,10 +194,9 @@ impl<'e, E: Engine, D: Disk> Book<'e, E, D> {
     ) -> Result<Book<'e, E, D>, NotOpened<D>>
         requires settled { opened.journal.doubt ≡ None }
         requires next { opened.journal.next ≡ opened.first + length opened.bodies }
-        requires keeps { D.tells → Keeps D.tells D.may_leave opened.journal
-            (record { format = 1; first = opened.first })
+        requires keeps { D.law.tells → Keeps D.law opened.journal (record { format = 1; first = opened.first })
             opened.bodies }
-        ensures opened { IfOk result (IsOpened D.tells D.may_leave D.may_have_left D.moment) }
+        ensures opened { IfOk result (IsOpened D.law) }
         ensures book { IfOk result (λ b. b.journal ≡ opened.journal) }
         ensures first { IfOk result (λ b. opened.first ≡ 1) }
         ensures replayed { IfOk result (λ b. IsReplayed opened.bodies b.host × (b.opened ≡ length opened.bodies)) }

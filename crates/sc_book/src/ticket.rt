@@ -10,9 +10,8 @@ use sc_types::Cue;
 use std::alloc::Global;
 use std::marker::Model;
 
-/// A session that was taken to step: no other worker gets it until this is spent, by a commit or an abandon. One that
-/// is dropped leaves its claim open.
-#[derive(Drop)]
+/// A session that was taken to step: no other worker gets it until this is spent, by a commit or an abandon. It cannot be
+/// dropped, so no claim is left open.
 pub struct Ticket<E: Engine> {
     place: usize,
     input: TurnInput<E::Plan>,
@@ -47,7 +46,11 @@ impl<E: Engine> Ticket<E> {
     pub(crate) fn into_place(self) -> usize
         ensures { result ≡ self.place }
     {
-        self.place
+        let Ticket {
+            place,
+            input: _input,
+        } = self;
+        place
     }
 
     /// The place of the session, counted from 0 in the order of start.

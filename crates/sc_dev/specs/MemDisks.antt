@@ -1,11 +1,11 @@
 -- Disks that stand in memory. This host's own rule.
-use Rattle.std.specs.Prelude.{◌⊎◌, ℕ, ◌+◌, ◌-◌, ◌^◌, ◌==◌, ◌≤◌, min, nat_le, Bool, not, ◌&&◌, ◌||◌, if◌then◌else◌, List, [], length}
+use Rattle.std.specs.Prelude.{◌⊎◌, ℕ, ◌+◌, ◌-◌, ◌^◌, ◌==◌, ◌≤◌, min, nat_le, Bool, not, ◌&&◌, ◌||◌, if◌then◌else◌, List, [], length, ⊤}
 use Rattle.std.specs.List.{list_any}
 use Rattle.sc_dev.specs.declared.disk.Part.{Part}
 use Rattle.sc_dev.specs.declared.disk.Part.TheVariants.{Journal, SlotA, SlotB}
 use Rattle.sc_dev.specs.declared.mem_part.Rooms.{Rooms}
 use Rattle.sc_dev.specs.Causes.{risen}
-use Rattle.sc_dev.specs.Disks.{DiskOf}
+use Rattle.sc_dev.specs.Disks.{DiskLaw, DiskOf}
 use Rattle.sc_dev.specs.Histories.{Done, History, passed, wrote, lost, synced, after_call, read_bytes, MayLeave, filled, ago, bytes_written, furthest}
 
 -- the three parts: each call stands in the history of each, and may have changed one
@@ -107,6 +107,18 @@ identity_of d = 0
 abbrev pub MightHaveLeft : MemDiskOf → ℕ → DiskOf → Type 0
 MightHaveLeft d t c = ((t ≤ moment_of d) × PartsLeave d.parts c)
     ⊎ ((k : ℕ) × (t + k ≤ calls_made d.parts) × PartsLeave (parts_ago k d.parts) c)
+
+-- what is known of a disk in memory
+abbrev pub mem_law : DiskLaw MemDiskOf
+mem_law = record {
+  tells = ⊤;
+  reads = λ d. parts_read d.parts;
+  may_leave = λ d. PartsLeave d.parts;
+  may_have_left = MightHaveLeft;
+  moment = moment_of;
+  faults = λ d. d.faults;
+  identity = identity_of;
+}
 
 -- whether the next call is past the room in calls, and whether it is one of those that fail
 abbrev pub is_past : MemDiskOf → Bool

@@ -1,9 +1,9 @@
 ghost use Rattle.std.specs.Prelude.{◌≡◌, ◌+◌, ◌-◌, ◌^◌, ◌<◌, ◌≤◌, ⊤, true, false, [], min, length, take, drop, IfOk, OnOk, MatchResult};
 ghost use Rattle.std.specs.Io.{ReadsAtMost};
 ghost use Rattle.sc_dev.specs.Causes.{HasCause, Rose, risen};
-ghost use Rattle.sc_dev.specs.Disks.{DiskOf, Elapses, Fits, Follows, Torn, Within, part_of};
+ghost use Rattle.sc_dev.specs.Disks.{DiskOf, Elapsed, Fits, Follows, Torn, Within, part_of};
 ghost use Rattle.sc_dev.specs.Histories.{passed, synced, lost, wrote};
-ghost use Rattle.sc_dev.specs.MemDisks.{PartsLeave, MightHaveLeft, parts_read, parts_filled, moment_of, identity_of, new_disk, with_call, made, refused, is_past, is_named, has_room, goes_well, after_read_at, after_sync, write_goes_well, after_write_at};
+ghost use Rattle.sc_dev.specs.MemDisks.{PartsLeave, MightHaveLeft, parts_read, parts_filled, moment_of, identity_of, mem_law, new_disk, with_call, made, refused, is_past, is_named, has_room, goes_well, after_read_at, after_sync, write_goes_well, after_write_at};
 ghost use Rattle.sc_dev.specs.MemDiskFacts.{parts_stand, since_grows, since_now, since_only};
 ghost use Rattle.sc_dev.specs.Steps.{Steps};
 
@@ -235,19 +235,7 @@ impl MemDisk {
 }
 
 impl Disk for MemDisk {
-    ghost tells = { ⊤ };
-
-    ghost reads = { λ d. parts_read d.parts };
-
-    ghost may_leave = { λ d. PartsLeave d.parts };
-
-    ghost may_have_left = { MightHaveLeft };
-
-    ghost moment = { moment_of };
-
-    ghost faults = { λ d. d.faults };
-
-    ghost identity = { identity_of };
+    ghost law = { mem_law };
 
     ghost stands = { λ d. parts_stand d.parts };
 
@@ -266,9 +254,10 @@ impl Disk for MemDisk {
         ensures stays { parts_read self.new.parts ≡ parts_read self.old.parts }
         ensures images { Within (PartsLeave self.old.parts) (PartsLeave self.new.parts) }
         ensures fits { (c : DiskOf) → PartsLeave self.new.parts c → Fits c }
-        ensures time { Elapses (moment_of self.old) (moment_of self.new) (MightHaveLeft self.old)
+        ensures time { Elapsed (moment_of self.old) (moment_of self.new) (MightHaveLeft self.old)
             (MightHaveLeft self.new) (PartsLeave self.new.parts) }
         ensures cause { HasCause self.old.faults self.new.faults result }
+        ensures fine { OnOk result (self.new.faults ≡ self.old.faults) }
         ensures same { identity_of self.new ≡ identity_of self.old }
         ensures answer { MatchResult result (λ _. goes_well self.old ≡ true) (λ _. goes_well self.old ≡ false) }
         ensures after { self.new ≡ after_read_at self.old }
@@ -291,9 +280,10 @@ impl Disk for MemDisk {
         ensures images { Follows (Torn part at (length piece.now)) (PartsLeave self.old.parts)
             (PartsLeave self.new.parts) }
         ensures fits { (c : DiskOf) → PartsLeave self.new.parts c → Fits c }
-        ensures time { Elapses (moment_of self.old) (moment_of self.new) (MightHaveLeft self.old)
+        ensures time { Elapsed (moment_of self.old) (moment_of self.new) (MightHaveLeft self.old)
             (MightHaveLeft self.new) (PartsLeave self.new.parts) }
         ensures cause { HasCause self.old.faults self.new.faults result }
+        ensures fine { OnOk result (self.new.faults ≡ self.old.faults) }
         ensures same { identity_of self.new ≡ identity_of self.old }
         ensures answer { let well = write_goes_well self.old at (length piece.now) in
             MatchResult result (λ _. well ≡ true) (λ _. well ≡ false) }
@@ -318,9 +308,10 @@ impl Disk for MemDisk {
             → part_of part c ≡ part_of part (parts_read self.new.parts)) }
         ensures images { Within (PartsLeave self.old.parts) (PartsLeave self.new.parts) }
         ensures fits { (c : DiskOf) → PartsLeave self.new.parts c → Fits c }
-        ensures time { Elapses (moment_of self.old) (moment_of self.new) (MightHaveLeft self.old)
+        ensures time { Elapsed (moment_of self.old) (moment_of self.new) (MightHaveLeft self.old)
             (MightHaveLeft self.new) (PartsLeave self.new.parts) }
         ensures cause { HasCause self.old.faults self.new.faults result }
+        ensures fine { OnOk result (self.new.faults ≡ self.old.faults) }
         ensures same { identity_of self.new ≡ identity_of self.old }
         ensures answer { MatchResult result (λ _. goes_well self.old ≡ true) (λ _. goes_well self.old ≡ false) }
         ensures after { self.new ≡ after_sync part self.old }

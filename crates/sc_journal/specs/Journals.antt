@@ -1,6 +1,6 @@
 -- What a journal has acknowledged, and what a stop may leave of it. This host's own rule.
 use Rattle.std.specs.Prelude.{◌≡◌, ◌⊎◌, ℕ, ◌+◌, ◌^◌, ◌<◌, Option, None, Some, List, [], ◌∷◌, ◌++◌, length}
-use Rattle.sc_dev.specs.Disks.{DiskOf}
+use Rattle.sc_dev.specs.Disks.{DiskLaw, DiskOf}
 use Rattle.sc_journal.specs.Texts.{HeadOf, front, Holds, HoldsWith}
 
 -- a journal: its disk, the place of its closed gate, the number of the next entry, and the body that a fault left in
@@ -17,12 +17,12 @@ StandsAt None head bodies c = Holds head bodies c.journal
 StandsAt (Some body) head bodies c = HoldsWith head bodies body c.journal
 
 -- The journal has acknowledged these bodies: every stop leaves them, with the one in doubt or without.
-pub record Keeps {D : Type 0} (tells : Type 0) (may_leave : D → DiskOf → Type 0) (j : JournalOf D) (head : HeadOf)
+pub record Keeps {D : Type 0} (law : DiskLaw D) (j : JournalOf D) (head : HeadOf)
     (bodies : List (List ℕ)) : Type 0 where
-  pub told : tells
+  pub told : law.tells
   pub next : j.next ≡ head.first + length bodies
   pub end : j.end ≡ length (front head bodies)
-  pub images : (c : DiskOf) → may_leave j.disk c → StandsAt j.doubt head bodies c
+  pub images : (c : DiskOf) → law.may_leave j.disk c → StandsAt j.doubt head bodies c
 
 -- an image has these bodies, or these and one more
 abbrev pub IsWithOrWithout : HeadOf → List (List ℕ) → List ℕ → DiskOf → Type 0

@@ -67,38 +67,39 @@ impl<D: Disk> Journal<D> {
     /// Opens a journal: syncs it and reads what it holds. The disk comes back where that fails.
     pub fn open(alloc: Global, disk: D) -> Result<Opened<D>, NotOpened<D>>
         // exactly the bodies of the text, or the first case of damage
-        ensures bodies { D.tells → IfOk result (λ o. held (D.reads disk).journal ≡ Ok o.bodies) }
-        ensures damaged { D.tells → IfErr result (λ n. (at : ℕ) → n.fault ≡ JournalFault.Damaged at
-            → held (D.reads disk).journal ≡ Err at) }
+        ensures bodies { D.law.tells → IfOk result (λ o. held (D.law.reads disk).journal ≡ Ok o.bodies) }
+        ensures damaged { D.law.tells → IfErr result (λ n. (at : ℕ) → n.fault ≡ JournalFault.Damaged at
+            → held (D.law.reads disk).journal ≡ Err at) }
 
         // so where the text holds bodies, these and nothing but a fault or want of memory
-        ensures whole { D.tells → (head : HeadOf) (bodies : _) → Holds head bodies (D.reads disk).journal
+        ensures whole { D.law.tells → (head : HeadOf) (bodies : _) → Holds head bodies (D.law.reads disk).journal
             → MatchResult result (λ o. (o.first ≡ head.first) × (o.bodies ≡ bodies))
             (λ n. (at : ℕ) → n.fault ≢ JournalFault.Damaged at) }
 
         // every stop leaves them
-        ensures keeps { D.tells → IfOk result (λ o.
-            Keeps D.tells D.may_leave o.journal (record { format = 1; first = o.first }) o.bodies) }
+        ensures keeps { D.law.tells → IfOk result (λ o.
+            Keeps D.law o.journal (record { format = 1; first = o.first }) o.bodies) }
         ensures settled { IfOk result (λ o. o.journal.doubt ≡ None) }
         ensures next { IfOk result (λ o. o.journal.next ≡ o.first + length o.bodies) }
 
         // only where the disk's faults rose
-        ensures disk { IfErr result (λ n. n.fault ≡ JournalFault.Disk → Rose (D.faults disk) (D.faults n.disk)) }
-        ensures later { MatchResult result (λ o. D.faults disk ≤ D.faults o.journal.disk)
-            (λ n. D.faults disk ≤ D.faults n.disk) }
+        ensures disk { IfErr result (λ n. n.fault ≡ JournalFault.Disk → Rose (D.law.faults disk) (D.law.faults n.disk)) }
+        ensures later { MatchResult result (λ o. D.law.faults disk ≤ D.law.faults o.journal.disk)
+            (λ n. D.law.faults disk ≤ D.law.faults n.disk) }
+        ensures fine { MatchResult result (λ o. D.law.faults o.journal.disk ≡ D.law.faults disk)
+            (λ n. n.fault ≢ JournalFault.Disk → D.law.faults n.disk ≡ D.law.faults disk) }
 
         // nothing was written, unless the disk failed
-        ensures stays { MatchResult result (λ o. D.reads o.journal.disk ≡ D.reads disk)
-            (λ n. n.fault ≢ JournalFault.Disk → D.reads n.disk ≡ D.reads disk) }
+        ensures stays { MatchResult result (λ o. D.law.reads o.journal.disk ≡ D.law.reads disk)
+            (λ n. n.fault ≢ JournalFault.Disk → D.law.reads n.disk ≡ D.law.reads disk) }
 
         // a stop leaves what it left before
-        ensures images { MatchResult result (λ o. Within (D.may_leave disk) (D.may_leave o.journal.disk))
-            (λ n. Within (D.may_leave disk) (D.may_leave n.disk)) }
-        ensures passes { MatchResult result
-            (λ o. Passes D.moment D.may_have_left disk o.journal.disk (D.may_leave disk))
-            (λ n. Passes D.moment D.may_have_left disk n.disk (D.may_leave disk)) }
-        ensures same { MatchResult result (λ o. D.identity o.journal.disk ≡ D.identity disk)
-            (λ n. D.identity n.disk ≡ D.identity disk) }
+        ensures images { MatchResult result (λ o. Within (D.law.may_leave disk) (D.law.may_leave o.journal.disk))
+            (λ n. Within (D.law.may_leave disk) (D.law.may_leave n.disk)) }
+        ensures passes { MatchResult result (λ o. Passes D.law disk o.journal.disk (D.law.may_leave disk))
+            (λ n. Passes D.law disk n.disk (D.law.may_leave disk)) }
+        ensures same { MatchResult result (λ o. D.law.identity o.journal.disk ≡ D.law.identity disk)
+            (λ n. D.law.identity n.disk ≡ D.law.identity disk) }
     {
         let mut disk = disk;
         match load(alloc, &mut disk) {
@@ -151,7 +152,7 @@ impl<D: Disk> Journal<D> {
 
     /// The disk's moment.
     pub fn moment(&self) -> u64
-        ensures { result ≡ D.moment self.now.disk }
+        ensures { result ≡ D.law.moment self.now.disk }
     {
         self.disk.moment()
     }
@@ -174,25 +175,26 @@ impl<D: Disk> Journal<D> {
         ensures untouched { result ≡ Err AppendFault.Full → self.new ≡ self.old }
 
         // only where the disk's faults rose
-        ensures failed { result ≡ Err AppendFault.Failed → Rose (D.faults self.old.disk) (D.faults self.new.disk) }
-        ensures later { D.faults self.old.disk ≤ D.faults self.new.disk }
+        ensures failed { result ≡ Err AppendFault.Failed → Rose (D.law.faults self.old.disk) (D.law.faults self.new.disk) }
+        ensures later { D.law.faults self.old.disk ≤ D.law.faults self.new.disk }
+        ensures fine { result ≢ Err AppendFault.Failed → D.law.faults self.new.disk ≡ D.law.faults self.old.disk }
 
         // where it ends, and what is in doubt
         ensures added { OnOk result ((self.new.end ≡ self.old.end + 5 + length body.now)
             × ((self.new.next ≡ self.old.next + 1) × (self.new.doubt ≡ None))) }
         ensures not_added { OnErr result ((self.new.end ≡ self.old.end) × ((self.new.next ≡ self.old.next)
             × ((self.new.doubt ≡ None) ⊎ (self.new.doubt ≡ Some body.now)))) }
-        ensures time { OnOk result (Rose (D.moment self.old.disk) (D.moment self.new.disk)) }
-        ensures elapsed { D.moment self.old.disk ≤ D.moment self.new.disk }
-        ensures same { D.identity self.new.disk ≡ D.identity self.old.disk }
+        ensures time { OnOk result (Rose (D.law.moment self.old.disk) (D.law.moment self.new.disk)) }
+        ensures elapsed { D.law.moment self.old.disk ≤ D.law.moment self.new.disk }
+        ensures same { D.law.identity self.new.disk ≡ D.law.identity self.old.disk }
 
         // what every stop leaves
-        ensures acknowledged { (head : HeadOf) (bodies : _) → Keeps D.tells D.may_leave self.old head bodies
-            → OnOk result (Keeps D.tells D.may_leave self.new head (bodies ++ body.now ∷ [])) }
-        ensures kept { (head : HeadOf) (bodies : _) → Keeps D.tells D.may_leave self.old head bodies
-            → OnErr result (Keeps D.tells D.may_leave self.new head bodies) }
-        ensures any_moment { (head : HeadOf) (bodies : _) → Keeps D.tells D.may_leave self.old head bodies
-            → LeavesOnly D.moment D.may_have_left self.old.disk self.new.disk
+        ensures acknowledged { (head : HeadOf) (bodies : _) → Keeps D.law self.old head bodies
+            → OnOk result (Keeps D.law self.new head (bodies ++ body.now ∷ [])) }
+        ensures kept { (head : HeadOf) (bodies : _) → Keeps D.law self.old head bodies
+            → OnErr result (Keeps D.law self.new head bodies) }
+        ensures any_moment { (head : HeadOf) (bodies : _) → Keeps D.law self.old head bodies
+            → LeavesOnly D.law self.old.disk self.new.disk
             (IsWithOrWithout head bodies body.now) }
     {
         if self.is_full(body.len()) {
@@ -224,15 +226,16 @@ impl<D: Disk> Journal<D> {
         ensures doubtful { OnErr result (self.new.doubt ≡ self.old.doubt) }
         ensures end { self.new.end ≡ self.old.end }
         ensures next { self.new.next ≡ self.old.next }
-        ensures cause { HasCause (D.faults self.old.disk) (D.faults self.new.disk) result }
-        ensures elapsed { D.moment self.old.disk ≤ D.moment self.new.disk }
-        ensures same { D.identity self.new.disk ≡ D.identity self.old.disk }
+        ensures cause { HasCause (D.law.faults self.old.disk) (D.law.faults self.new.disk) result }
+        ensures fine { OnOk result (D.law.faults self.new.disk ≡ D.law.faults self.old.disk) }
+        ensures elapsed { D.law.moment self.old.disk ≤ D.law.moment self.new.disk }
+        ensures same { D.law.identity self.new.disk ≡ D.law.identity self.old.disk }
 
         // what every stop leaves
-        ensures kept { (head : HeadOf) (bodies : _) → Keeps D.tells D.may_leave self.old head bodies
-            → Keeps D.tells D.may_leave self.new head bodies }
-        ensures any_moment { (head : HeadOf) (bodies : _) → Keeps D.tells D.may_leave self.old head bodies
-            → LeavesOnly D.moment D.may_have_left self.old.disk self.new.disk
+        ensures kept { (head : HeadOf) (bodies : _) → Keeps D.law self.old head bodies
+            → Keeps D.law self.new head bodies }
+        ensures any_moment { (head : HeadOf) (bodies : _) → Keeps D.law self.old head bodies
+            → LeavesOnly D.law self.old.disk self.new.disk
             (IsAsDoubted self.old.doubt head bodies) }
     {
         if self.is_in_doubt {

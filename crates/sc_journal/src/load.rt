@@ -13,16 +13,17 @@ const MOST: usize = 1 << 40;
 
 // All bytes of the journal, read in pieces.
 pub fn read_journal<D: Disk>(alloc: Global, disk: &mut D) -> Result<Vec<u8>, JournalFault>
-    requires { (c : DiskOf) → D.may_leave disk.old c → Fits c }
-    ensures bytes { D.tells → IfOk result (λ v. v.items ≡ (D.reads disk.old).journal) }
+    requires { (c : DiskOf) → D.law.may_leave disk.old c → Fits c }
+    ensures bytes { D.law.tells → IfOk result (λ v. v.items ≡ (D.law.reads disk.old).journal) }
     ensures short { IfOk result (λ v. length v.items ≤ 2 ^ 40) }
-    ensures stays { D.reads disk.new ≡ D.reads disk.old }
-    ensures images { Within (D.may_leave disk.old) (D.may_leave disk.new) }
-    ensures passes { Passes D.moment D.may_have_left disk.old disk.new (D.may_leave disk.old) }
-    ensures disk { result ≡ Err JournalFault.Disk → Rose (D.faults disk.old) (D.faults disk.new) }
-    ensures later { D.faults disk.old ≤ D.faults disk.new }
+    ensures stays { D.law.reads disk.new ≡ D.law.reads disk.old }
+    ensures images { Within (D.law.may_leave disk.old) (D.law.may_leave disk.new) }
+    ensures passes { Passes D.law disk.old disk.new (D.law.may_leave disk.old) }
+    ensures disk { result ≡ Err JournalFault.Disk → Rose (D.law.faults disk.old) (D.law.faults disk.new) }
+    ensures later { D.law.faults disk.old ≤ D.law.faults disk.new }
+    ensures fine { result ≢ Err JournalFault.Disk → D.law.faults disk.new ≡ D.law.faults disk.old }
     ensures damaged { (at : ℕ) → result ≢ Err (JournalFault.Damaged at) }
-    ensures same { D.identity disk.new ≡ D.identity disk.old }
+    ensures same { D.law.identity disk.new ≡ D.law.identity disk.old }
 {
     let mut text = Vec::new(alloc);
     let mut buffer = [0u8; 65536];
@@ -46,23 +47,24 @@ pub struct Loaded {
 
 // Syncs the journal and reads what it holds.
 pub fn load<D: Disk>(alloc: Global, disk: &mut D) -> Result<Loaded, JournalFault>
-    ensures bodies { D.tells → IfOk result (λ l. held (D.reads disk.old).journal ≡ Ok l.found.bodies) }
-    ensures first { D.tells → IfOk result (λ l. first_number (D.reads disk.old).journal ≡ Ok l.found.first) }
-    ensures holds { D.tells → IfOk result (λ l. (c : DiskOf) → D.may_leave disk.new c
+    ensures bodies { D.law.tells → IfOk result (λ l. held (D.law.reads disk.old).journal ≡ Ok l.found.bodies) }
+    ensures first { D.law.tells → IfOk result (λ l. first_number (D.law.reads disk.old).journal ≡ Ok l.found.first) }
+    ensures holds { D.law.tells → IfOk result (λ l. (c : DiskOf) → D.law.may_leave disk.new c
         → Holds (record { format = 1; first = l.found.first }) l.found.bodies c.journal) }
     ensures end { IfOk result (λ l.
         l.found.end ≡ length (front (record { format = 1; first = l.found.first }) l.found.bodies)) }
     ensures last { IfOk result (λ l. l.found.first + length l.found.bodies ≤ 2 ^ 48 + 1) }
     ensures short { IfOk result (λ l. l.found.end < 2 ^ 40) }
     ensures room { IfOk result (λ l. 2097157 ≤ vec_capacity l.buffer) }
-    ensures damaged { D.tells → (at : ℕ) → result ≡ Err (JournalFault.Damaged at)
-        → held (D.reads disk.old).journal ≡ Err at }
-    ensures disk { result ≡ Err JournalFault.Disk → Rose (D.faults disk.old) (D.faults disk.new) }
-    ensures later { D.faults disk.old ≤ D.faults disk.new }
-    ensures stays { result ≢ Err JournalFault.Disk → D.reads disk.new ≡ D.reads disk.old }
-    ensures images { Within (D.may_leave disk.old) (D.may_leave disk.new) }
-    ensures passes { Passes D.moment D.may_have_left disk.old disk.new (D.may_leave disk.old) }
-    ensures same { D.identity disk.new ≡ D.identity disk.old }
+    ensures damaged { D.law.tells → (at : ℕ) → result ≡ Err (JournalFault.Damaged at)
+        → held (D.law.reads disk.old).journal ≡ Err at }
+    ensures disk { result ≡ Err JournalFault.Disk → Rose (D.law.faults disk.old) (D.law.faults disk.new) }
+    ensures later { D.law.faults disk.old ≤ D.law.faults disk.new }
+    ensures fine { result ≢ Err JournalFault.Disk → D.law.faults disk.new ≡ D.law.faults disk.old }
+    ensures stays { result ≢ Err JournalFault.Disk → D.law.reads disk.new ≡ D.law.reads disk.old }
+    ensures images { Within (D.law.may_leave disk.old) (D.law.may_leave disk.new) }
+    ensures passes { Passes D.law disk.old disk.new (D.law.may_leave disk.old) }
+    ensures same { D.law.identity disk.new ≡ D.law.identity disk.old }
 {
     disk.sync(Part::Journal)?;
     let text = read_journal(alloc, disk)?;

@@ -16,20 +16,20 @@ const CLOSED: [u8; 21] = [
 /// Makes an empty journal whose first entry has the number 1. It takes no memory.
 pub fn create<D: Disk>(disk: &mut D) -> Result<(), CreateFault>
     // exactly at an open header, and then nothing was written
-    ensures exists { D.tells → result ≡ Err CreateFault.Exists → has_open_header (D.reads disk.old).journal ≡ true }
-    ensures free { D.tells → OnOk result (has_open_header (D.reads disk.old).journal ≡ false) }
-    ensures untouched { D.tells → has_open_header (D.reads disk.old).journal ≡ true
-        → Within (D.may_leave disk.old) (D.may_leave disk.new) }
+    ensures exists { D.law.tells → result ≡ Err CreateFault.Exists → has_open_header (D.law.reads disk.old).journal ≡ true }
+    ensures free { D.law.tells → OnOk result (has_open_header (D.law.reads disk.old).journal ≡ false) }
+    ensures untouched { D.law.tells → has_open_header (D.law.reads disk.old).journal ≡ true
+        → Within (D.law.may_leave disk.old) (D.law.may_leave disk.new) }
 
     // every stop leaves it
-    ensures made { D.tells → OnOk result ((c : DiskOf) → D.may_leave disk.new c
+    ensures made { D.law.tells → OnOk result ((c : DiskOf) → D.law.may_leave disk.new c
         → Holds (record { format = 1; first = 1 }) [] c.journal) }
 
     // only where the disk's faults rose
-    ensures failed { result ≡ Err CreateFault.Failed → Rose (D.faults disk.old) (D.faults disk.new) }
-    ensures later { D.faults disk.old ≤ D.faults disk.new }
-    ensures time { D.moment disk.old ≤ D.moment disk.new }
-    ensures same { D.identity disk.new ≡ D.identity disk.old }
+    ensures failed { result ≡ Err CreateFault.Failed → Rose (D.law.faults disk.old) (D.law.faults disk.new) }
+    ensures later { D.law.faults disk.old ≤ D.law.faults disk.new }
+    ensures time { D.law.moment disk.old ≤ D.law.moment disk.new }
+    ensures same { D.law.identity disk.new ≡ D.law.identity disk.old }
 {
     if reads_open_header(disk)? {
         return Err(CreateFault::Exists);
@@ -41,12 +41,12 @@ pub fn create<D: Disk>(disk: &mut D) -> Result<(), CreateFault>
 
 // Whether the journal begins with an open header.
 fn reads_open_header<D: Disk>(disk: &mut D) -> Result<bool, Failed>
-    ensures header { D.tells → IfOk result (λ b. b ≡ has_open_header (D.reads disk.old).journal) }
-    ensures images { Within (D.may_leave disk.old) (D.may_leave disk.new) }
-    ensures stays { D.reads disk.new ≡ D.reads disk.old }
-    ensures cause { HasCause (D.faults disk.old) (D.faults disk.new) result }
-    ensures time { D.moment disk.old ≤ D.moment disk.new }
-    ensures same { D.identity disk.new ≡ D.identity disk.old }
+    ensures header { D.law.tells → IfOk result (λ b. b ≡ has_open_header (D.law.reads disk.old).journal) }
+    ensures images { Within (D.law.may_leave disk.old) (D.law.may_leave disk.new) }
+    ensures stays { D.law.reads disk.new ≡ D.law.reads disk.old }
+    ensures cause { HasCause (D.law.faults disk.old) (D.law.faults disk.new) result }
+    ensures time { D.law.moment disk.old ≤ D.law.moment disk.new }
+    ensures same { D.law.identity disk.new ≡ D.law.identity disk.old }
 {
     let mut header = [0u8; 20];
     let count = disk.read_at(Part::Journal, 0, &mut header)?;

@@ -11,18 +11,19 @@ use sc_dev::{Disk, Failed, Part};
 pub fn write_synced<D: Disk>(disk: &mut D, at: u64, piece: &[u8]) -> Result<(), Failed>
     requires some { 0 < length piece.now }
     requires range { at + length piece.now ≤ 2 ^ 40 }
-    ensures images { Follows (Torn Part.Journal at (length piece.now)) (D.may_leave disk.old) (D.may_leave disk.new) }
-    ensures passes { Passes D.moment D.may_have_left disk.old disk.new
-        (TornFrom (D.may_leave disk.old) Part.Journal at (length piece.now)) }
-    ensures durable { D.tells → OnOk result
-        ((c : DiskOf) → D.may_leave disk.new c → c.journal ≡ (D.reads disk.new).journal) }
-    ensures written { D.tells → OnOk result
-        (take (length piece.now) (drop at (D.reads disk.new).journal) ≡ piece.now) }
-    ensures outside { D.tells → OnOk result
-        (Torn Part.Journal at (length piece.now) (D.reads disk.old) (D.reads disk.new)) }
-    ensures cause { HasCause (D.faults disk.old) (D.faults disk.new) result }
-    ensures rose { Rose (D.moment disk.old) (D.moment disk.new) }
-    ensures same { D.identity disk.new ≡ D.identity disk.old }
+    ensures images { Follows (Torn Part.Journal at (length piece.now)) (D.law.may_leave disk.old) (D.law.may_leave disk.new) }
+    ensures passes { Passes D.law disk.old disk.new
+        (TornFrom (D.law.may_leave disk.old) Part.Journal at (length piece.now)) }
+    ensures durable { D.law.tells → OnOk result
+        ((c : DiskOf) → D.law.may_leave disk.new c → c.journal ≡ (D.law.reads disk.new).journal) }
+    ensures written { D.law.tells → OnOk result
+        (take (length piece.now) (drop at (D.law.reads disk.new).journal) ≡ piece.now) }
+    ensures outside { D.law.tells → OnOk result
+        (Torn Part.Journal at (length piece.now) (D.law.reads disk.old) (D.law.reads disk.new)) }
+    ensures cause { HasCause (D.law.faults disk.old) (D.law.faults disk.new) result }
+    ensures fine { OnOk result (D.law.faults disk.new ≡ D.law.faults disk.old) }
+    ensures rose { Rose (D.law.moment disk.old) (D.law.moment disk.new) }
+    ensures same { D.law.identity disk.new ≡ D.law.identity disk.old }
 {
     disk.write_at(Part::Journal, at, piece)?;
     disk.sync(Part::Journal)

@@ -18,8 +18,8 @@ pub enum Lent {
 pub fn add_to<D: Disk>(alloc: Global, disk: &mut D, body: &[u8]) -> Lent
     requires some { 1 ≤ length body.now }
     requires most { length body.now ≤ 2097152 }
-    ensures later { D.faults disk.old ≤ D.faults disk.new }
-    ensures failed { result ≡ Lent.Failed → Rose (D.faults disk.old) (D.faults disk.new) }
+    ensures later { D.law.faults disk.old ≤ D.law.faults disk.new }
+    ensures failed { result ≡ Lent.Failed → Rose (D.law.faults disk.old) (D.law.faults disk.new) }
 {
     let mut journal = match Journal::open(alloc, disk) {
         Ok(opened) => opened.journal,

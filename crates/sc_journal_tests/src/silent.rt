@@ -35,19 +35,15 @@ impl SilentDisk {
 }
 
 impl Disk for SilentDisk {
-    ghost tells = { ⊥ };
-
-    ghost reads = { λ _. record { journal = []; slot_a = []; slot_b = [] } };
-
-    ghost may_leave = { λ _ c. Fits c };
-
-    ghost may_have_left = { λ _ _ c. Fits c };
-
-    ghost moment = { λ d. d.moment };
-
-    ghost faults = { λ d. d.faults };
-
-    ghost identity = { λ _. 0 };
+    ghost law = { record {
+      tells = ⊥;
+      reads = λ _. record { journal = []; slot_a = []; slot_b = [] };
+      may_leave = λ _ c. Fits c;
+      may_have_left = λ _ _ c. Fits c;
+      moment = λ d. d.moment;
+      faults = λ d. d.faults;
+      identity = λ _. 0;
+    } };
 
     ghost stands = { λ d. record { journal = Prim.omega arith; slot_a = Prim.omega arith; slot_b = Prim.omega arith } };
 

@@ -1,5 +1,5 @@
 -- A book is a host that jobs may share.
-use Rattle.std.proofs.Common.{◌≡◌, inl, inr, ℕ, zero, suc, ◌<◌, ◌≤◌, Bool, true, false, cond, ◌||◌, nat_le, Option, Some, List, [], ◌∷◌, length, find, slice_get, refl, sym, ap, ◌∙◌, subst, arith}
+use Rattle.std.proofs.Common.{◌≡◌, ◌≢◌, inl, inr, ℕ, zero, suc, ◌<◌, ◌≤◌, Bool, true, false, cond, ◌||◌, nat_le, Option, Some, List, [], ◌∷◌, length, find, slice_get, refl, sym, ap, ◌∙◌, subst, arith}
 use Rattle.std.specs.List.{list_any, position_or_len}
 use Rattle.std.specs.Option.{option_map_or}
 use Rattle.std.specs.Str.{bytes_eq}
@@ -23,7 +23,7 @@ use Rattle.sc_machine.specs.Waiting.{name_at}
 use Rattle.sc_machine.proofs.ChangeLemmas.{change_of}
 use Rattle.sc_machine.proofs.NameLemmas.{AreDistinct, distinct_kept, has_cue, placed, ready_stepped, step_taken}
 use Rattle.sc_dev.specs.Causes.{Rose}
-use Rattle.sc_dev.specs.Disks.{DiskOf}
+use Rattle.sc_dev.specs.Disks.{DiskLaw, DiskOf}
 use Rattle.sc_journal.specs.Journals.{IsFull}
 use Rattle.sc_types.specs.declared.command.Command.{Command}
 use Rattle.sc_types.specs.declared.command.Command.TheVariants.{Step}
@@ -155,19 +155,18 @@ full_still end next size later after fits grows more (inr many) = inr (omega (ar
 
 -- ---- what the calls of a book do, as jobs see it
 
-module _ {D : Type 0} (tells : Type 0) (leaves : D → DiskOf → Type 0) (left : D → ℕ → DiskOf → Type 0)
-    (moment faults identity : D → ℕ) where
+module _ {D : Type 0} (law : DiskLaw D) where
   abbrev seen : BookOf D → Seen
-  seen = seen_of tells leaves left moment faults identity
+  seen = seen_of law
 
   -- the names in the host of a book are distinct
-  pub distinct_in : (b : BookOf D) → IsSome tells leaves left moment b → AreDistinct b.host.sessions
+  pub distinct_in : (b : BookOf D) → IsSome law b → AreDistinct b.host.sessions
   distinct_in b some =
       subst (λ (g : HostImage). AreDistinct g.sessions) (sym some.is.host) (distinct_opening some.past b.history)
 
-  pub went_on : (old new : BookOf D) → new.opened ≡ old.opened → faults old.journal.disk ≤ faults new.journal.disk
-      → identity new.journal.disk ≡ identity old.journal.disk → Grows old new
-      → ((past : List Command) → IsBook tells leaves left moment past old → IsBook tells leaves left moment past new)
+  pub went_on : (old new : BookOf D) → new.opened ≡ old.opened → law.faults old.journal.disk ≤ law.faults new.journal.disk
+      → law.identity new.journal.disk ≡ law.identity old.journal.disk → Grows old new
+      → ((past : List Command) → IsBook law past old → IsBook law past new)
       → GoesOn (seen old) (seen new)
   went_on old new opened later same grows kept = record {
     opened = opened;
@@ -179,14 +178,20 @@ module _ {D : Type 0} (tells : Type 0) (leaves : D → DiskOf → Type 0) (left 
 
   -- only the claims changed
   pub claims_only : (old new : BookOf D) (claims : List ℕ) → new ≡ record old { claims = claims }
-      → ((past : List Command) → IsBook tells leaves left moment past old → IsBook tells leaves left moment past new)
+      → ((past : List Command) → IsBook law past old → IsBook law past new)
       → IsSame (seen old) (seen new) × GoesOn (seen old) (seen new)
   claims_only old new claims same kept = (
-    record { entries = ap (λ (b : BookOf D). b.history) same; doubts = ap (λ (b : BookOf D). b.doubts) same },
+    record {
+      entries = ap (λ (b : BookOf D). b.history) same;
+      calm = record {
+        doubts = ap (λ (b : BookOf D). b.doubts) same;
+        faults = ap (λ (b : BookOf D). law.faults b.journal.disk) same;
+      };
+    },
     record {
       opened = ap (λ (b : BookOf D). b.opened) same;
-      later = omega (arith, ap (λ (b : BookOf D). faults b.journal.disk) same);
-      same = ap (λ (b : BookOf D). identity b.journal.disk) same;
+      later = omega (arith, ap (λ (b : BookOf D). law.faults b.journal.disk) same);
+      same = ap (λ (b : BookOf D). law.identity b.journal.disk) same;
       tight = subst (λ (b : BookOf D). IsFull b.journal.end b.journal.next most_body) (sym same);
       kept = kept;
     },
@@ -195,24 +200,30 @@ module _ {D : Type 0} (tells : Type 0) (leaves : D → DiskOf → Type 0) (left 
   pub nothing_went_on : (b : BookOf D) → GoesOn (seen b) (seen b)
   nothing_went_on b = record { opened = refl; later = omega arith; same = refl; tight = λ t. t; kept = λ past h. h }
 
-  pub added : (by : Who) (c : Command) (old new : BookOf D) (r : Receipt) → Acknowledges by c old new r → Adds by c (seen old) (seen new)
-  added by c old new r a =
-      record { entry = a.entry; entries = a.history; by = a.who; command = a.command; doubts = a.doubts }
+  pub added : (by : Who) (c : Command) (old new : BookOf D) (r : Receipt) → Acknowledges by c old new r
+      → law.faults new.journal.disk ≡ law.faults old.journal.disk → Adds by c (seen old) (seen new)
+  added by c old new r a fine = record {
+    entry = a.entry;
+    entries = a.history;
+    by = a.who;
+    command = a.command;
+    calm = record { doubts = a.doubts; faults = fine };
+  }
 
   pub step_added : (c : Command) (old new : BookOf D) (r : Receipt) → IsStepped old.host c → Acknowledges Worker c old new r
-      → AddsStep (seen old) (seen new)
-  step_added c old new r s a = record {
+      → law.faults new.journal.disk ≡ law.faults old.journal.disk → AddsStep (seen old) (seen new)
+  step_added c old new r s a fine = record {
     entry = a.entry;
     entries = a.history;
     by = a.who;
     accepted = ap (λ x. is_accepted_step x a.entry.reply) (a.command ∙ s.is)
         ∙ ap (is_accepted_step (Step s.name)) (a.told.reply ∙ ap (λ x. (answer old.host x).reply) s.is ∙ s.reply);
-    doubts = a.doubts;
+    calm = record { doubts = a.doubts; faults = fine };
   }
 
   -- why a call failed, by what it says of its faults
   why : (by : Who) (c : Command) (fault : CallFault) (old new : BookOf D) → IsUnanswered old new → Doubts by c old new fault
-      → (fault ≡ Disk → Rose (faults old.journal.disk) (faults new.journal.disk)) → (fault ≡ Full → HasNoRoom c old)
+      → (fault ≡ Disk → Rose (law.faults old.journal.disk) (law.faults new.journal.disk)) → (fault ≡ Full → HasNoRoom c old)
       → (fault ≡ Full → length (body_of c) ≤ most_body) → Grows old new
       → IsWhy by c fault (seen old) (seen new)
   why by c Disk old new un doubts disk full fits grows = (
@@ -237,20 +248,21 @@ module _ {D : Type 0} (tells : Type 0) (leaves : D → DiskOf → Type 0) (left 
   why by c NoMemory old new un doubts disk full fits grows = doubts
 
   pub failed : (by : Who) (c : Command) (fault : CallFault) (old new : BookOf D) → IsUnanswered old new → Doubts by c old new fault
-      → (fault ≡ Disk → Rose (faults old.journal.disk) (faults new.journal.disk)) → (fault ≡ Full → HasNoRoom c old)
-      → (fault ≡ Full → length (body_of c) ≤ most_body) → Grows old new → Fails by c fault (seen old) (seen new)
-  failed by c fault old new un doubts disk full fits grows =
-      record { entries = un.history; why = why by c fault old new un doubts disk full fits grows }
+      → (fault ≡ Disk → Rose (law.faults old.journal.disk) (law.faults new.journal.disk)) → (fault ≡ Full → HasNoRoom c old)
+      → (fault ≡ Full → length (body_of c) ≤ most_body) → Grows old new
+      → (fault ≢ Disk → law.faults new.journal.disk ≡ law.faults old.journal.disk) → Fails by c fault (seen old) (seen new)
+  failed by c fault old new un doubts disk full fits grows fine =
+      record { entries = un.history; why = why by c fault old new un doubts disk full fits grows; faults = fine }
 
   pub step_failed : (c : Command) (fault : CallFault) (old new : BookOf D) → IsStepped old.host c → IsUnanswered old new
-      → Doubts Worker c old new fault → (fault ≡ Disk → Rose (faults old.journal.disk) (faults new.journal.disk))
+      → Doubts Worker c old new fault → (fault ≡ Disk → Rose (law.faults old.journal.disk) (law.faults new.journal.disk))
       → (fault ≡ Full → HasNoRoom c old) → (fault ≡ Full → length (body_of c) ≤ most_body) → Grows old new
-      → FailsToStep fault (seen old) (seen new)
-  step_failed c fault old new s un doubts disk full fits grows = record {
+      → (fault ≢ Disk → law.faults new.journal.disk ≡ law.faults old.journal.disk) → FailsToStep fault (seen old) (seen new)
+  step_failed c fault old new s un doubts disk full fits grows fine = record {
     session = s.name;
-    fails = subst (λ x. Fails Worker x fault (seen old) (seen new)) s.is (failed Worker c fault old new un doubts disk full fits grows);
+    fails = subst (λ x. Fails Worker x fault (seen old) (seen new)) s.is (failed Worker c fault old new un doubts disk full fits grows fine);
   }
 
   -- there was no memory to begin with
   pub not_begun : (b : BookOf D) → FailsToStep NoMemory (seen b) (seen b)
-  not_begun b = record { session = []; fails = record { entries = refl; why = refl } }
+  not_begun b = record { session = []; fails = record { entries = refl; why = refl; faults = λ other. refl } }

@@ -1,5 +1,5 @@
 -- A pool keeps what it keeps, whatever a job does at the lock.
-use Rattle.std.proofs.Common.{◌≡◌, inl, inr, ℕ, ◌+◌, ◌<◌, ◌≤◌, Bool, true, false, IsTrue, Option, None, Some, List, [], ◌∷◌, ◌++◌, length, append_assoc, append-nil, length-append, refl, sym, ap, ◌∙◌, subst, arith, rules}
+use Rattle.std.proofs.Common.{◌≡◌, ◌≢◌, inl, inr, ℕ, ◌+◌, ◌<◌, ◌≤◌, Bool, true, false, IsTrue, Option, None, Some, List, [], ◌∷◌, ◌++◌, length, append_assoc, append-nil, length-append, refl, sym, ap, ◌∙◌, subst, arith, rules}
 use Rattle.std.specs.Prelude.{slice_get, slice_set}
 use Rattle.std.specs.List.{list_all, AllByRecursion}
 use Rattle.std.proofs.lemmas.Bool.{cases_eq, true≢false}
@@ -21,7 +21,7 @@ use Rattle.sc_machine.specs.Commands.{answer}
 use Rattle.sc_machine.specs.Histories.{replay}
 use Rattle.sc_book.specs.Books.{opening}
 use Rattle.sc_pool.specs.Serving.{IsPrefix, commands_of, is_of, is_served, served_by}
-use Rattle.sc_pool.specs.Sharing.{Adds, AddsStep, Fails, FailsToStep, GoesOn, IsDoubted, IsWhy, Seen}
+use Rattle.sc_pool.specs.Sharing.{IsCalm, Adds, AddsStep, Fails, FailsToStep, GoesOn, IsDoubted, IsWhy, Seen}
 use Rattle.sc_pool.specs.declared.client.Client.{Client}
 use Rattle.sc_pool.proofs.ClientLemmas.{begun, free, get_set_other, get_set_same}
 use Rattle.sc_pool.proofs.ServingLemmas.{all_served-more, commands_of-other, commands_of-own, no_client, no_step_next, other_client, same_client, steps-more, steps-none}
@@ -208,6 +208,11 @@ more_served : (fresh : List Entry) (e : Entry) → IsTrue (list_all is_served fr
     → IsTrue (list_all is_served (fresh ++ e ∷ []))
 more_served fresh e all one = true_is (all_served-more fresh e (is_true all) one)
 
+-- no call of the disk failed since the start, and none in this call
+calm_then : (a b c : Seen) → IsCalm a b → IsCalm b c → IsCalm a c
+calm_then a b c first then =
+    record { doubts = then.doubts ∙ first.doubts; faults = then.faults ∙ first.faults }
+
 -- the next command of a client was made
 pub client_made : (p : Planned) (old new : Seen) (clients after : List Client) (worst : Option CallFault) (place number : ℕ) (c : Command)
     → Keeps p old clients worst → TakesNext place number c clients after → Adds (who.Client number) c old new → GoesOn old new
@@ -215,7 +220,7 @@ pub client_made : (p : Planned) (old new : Seen) (clients after : List Client) (
 client_made p old new clients after worst place number c k t a goes =
     let e = a.entry in
     let n = next_of p old clients after worst place number c k t in
-    let more = same_doubts p k.fresh (e ∷ []) old new k.doubtful k.doubts k.placed a.doubts in
+    let more = same_doubts p k.fresh (e ∷ []) old new k.doubtful k.doubts k.placed a.calm.doubts in
     let none : is_accepted_step e.command e.reply ≡ false =
     ap (λ x. is_accepted_step x e.reply) a.command
     ∙ no_step_next p.scripts place (commands_of (who.Client (place + 1)) k.fresh) t.rest c e.reply k.no_step n.whole in
@@ -234,7 +239,7 @@ client_made p old new clients after worst place number c k t a goes =
       shown = shown_later p.start old new worst k.shown goes;
       silent = λ none other. (let P : List Client → Type 0 = λ cs. IsFree (slice_get cs other) in
           subst P (sym t.set) (free_after clients place t.client (record t.client { left = t.rest }) t.there refl other (k.silent none other)));
-      sure = λ low. a.doubts ∙ k.sure low;
+      sure = λ low. calm_then p.start old new (k.sure low) a.calm;
     }
 
 -- the marked client, and the others
@@ -343,17 +348,20 @@ doubtful_after p fresh old new ds by c Disk is all placed why = elim why.1 [
 doubtful_after p fresh old new ds by c Full is all placed why = no_more p fresh old new ds is all why.1
 doubtful_after p fresh old new ds by c NoMemory is all placed why = no_more p fresh old new ds is all why
 
+full_not_disk : Full ≡ Disk → ⊥
+full_not_disk e = cc
+
 -- a fault that is not the disk's, nor want of memory, leaves no doubt
 sure_now : (p : Planned) (old new : Seen) (by : Who) (c : Command) (noted : Option CallFault) (fault worst : CallFault)
-    → (rank_of noted ≤ 1 → old.doubts ≡ p.start.doubts) → IsWhy by c fault old new → IsWorst noted fault worst
-    → rank_of (Some worst) ≤ 1 → new.doubts ≡ p.start.doubts
-sure_now p old new by c noted Disk worst sure why is low =
+    → (rank_of noted ≤ 1 → IsCalm p.start old) → IsWhy by c fault old new → (fault ≢ Disk → new.faults ≡ old.faults)
+    → IsWorst noted fault worst → rank_of (Some worst) ≤ 1 → IsCalm p.start new
+sure_now p old new by c noted Disk worst sure why fine is low =
     let above : 2 ≤ rank worst = is.above in
     absurd (omega (arith, above, low))
-sure_now p old new by c noted Full worst sure why is low =
+sure_now p old new by c noted Full worst sure why fine is low =
     let above : rank_of noted ≤ rank worst = is.above_noted in
-    why.1 ∙ sure (omega (arith, above, low))
-sure_now p old new by c noted NoMemory worst sure why is low =
+    calm_then p.start old new (sure (omega (arith, above, low))) (record { doubts = why.1; faults = fine full_not_disk })
+sure_now p old new by c noted NoMemory worst sure why fine is low =
     let above : 3 ≤ rank worst = is.above in
     absurd (omega (arith, above, low))
 
@@ -383,7 +391,7 @@ client_failed p old new clients after marked noted place number c fault worst k 
       goes_on = goes_then p.start old new k.goes_on goes;
       shown = shown_worst p.start old new (who.Client number) c noted fault worst k.shown k.goes_on goes f.why is;
       silent = λ none. absurd (some_not_none worst none);
-      sure = sure_now p old new (who.Client number) c noted fault worst k.sure f.why is;
+      sure = sure_now p old new (who.Client number) c noted fault worst k.sure f.why f.faults is;
     }
 
 -- a worker made a step
@@ -391,7 +399,7 @@ pub worker_made : (p : Planned) (old new : Seen) (clients : List Client) (worst 
     → AddsStep old new → GoesOn old new → accepted_steps old.entries < p.budget → Keeps p new clients worst
 worker_made p old new clients worst k a goes more_left =
     let e = a.entry in
-    let more = same_doubts p k.fresh (e ∷ []) old new k.doubtful k.doubts k.placed a.doubts in
+    let more = same_doubts p k.fresh (e ∷ []) old new k.doubtful k.doubts k.placed a.calm.doubts in
     let served : is_served e ≡ true = ap (λ w. served_by w e.command e.reply) a.by ∙ a.accepted in
     record {
       no_step = k.no_step;
@@ -407,7 +415,7 @@ worker_made p old new clients worst k a goes more_left =
       goes_on = goes_then p.start old new k.goes_on goes;
       shown = shown_later p.start old new worst k.shown goes;
       silent = k.silent;
-      sure = λ low. a.doubts ∙ k.sure low;
+      sure = λ low. calm_then p.start old new (k.sure low) a.calm;
     }
 
 -- a worker's step met a fault
@@ -431,7 +439,7 @@ worker_failed p old new clients noted fault worst k f goes is =
       goes_on = goes_then p.start old new k.goes_on goes;
       shown = shown_worst p.start old new who.Worker (Step f.session) noted fault worst k.shown k.goes_on goes f.fails.why is;
       silent = λ none. absurd (some_not_none worst none);
-      sure = sure_now p old new who.Worker (Step f.session) noted fault worst k.sure f.fails.why is;
+      sure = sure_now p old new who.Worker (Step f.session) noted fault worst k.sure f.fails.why f.fails.faults is;
     }
 
 -- a pool begins
@@ -448,13 +456,13 @@ begins_with p seen clients budget none starts all budgeted within =
       served = search rules;
       within = omega (arith, within, budgeted);
       doubtful = [];
-      doubts = starts.same.doubts ∙ sym (append-nil p.start.doubts);
+      doubts = starts.same.calm.doubts ∙ sym (append-nil p.start.doubts);
       placed = tt;
       goes_on = starts.goes_on;
       shown = tt;
       silent = λ none place. (let Q : List Client → Type 0 = λ cs. IsFree (slice_get cs place) in
           subst Q (sym all) (free 1 p.scripts place));
-      sure = λ low. starts.same.doubts;
+      sure = λ low. starts.same.calm;
     }
 
 -- what is left of a list that a client follows
@@ -511,7 +519,7 @@ nothing_ran p seen starts within =
       served = search rules;
       within = within;
       doubtful = [];
-      doubts = starts.same.doubts ∙ sym (append-nil p.start.doubts);
+      doubts = starts.same.calm.doubts ∙ sym (append-nil p.start.doubts);
       placed = tt;
       goes_on = starts.goes_on;
       shown = tt;

@@ -1,5 +1,5 @@
 -- The set-up of a script, and that it is served with what its clients and the workers make then.
-use Rattle.std.proofs.Common.{◌≡◌, inl, inr, ℕ, zero, suc, ◌≤◌, ◌==◌, ◌&&◌, ◌||◌, Bool, true, false, not, IsTrue, Option, None, Some, List, [], ◌∷◌, ◌++◌, length, append_assoc, append-nil, length-append, refl, sym, ap, ◌∙◌, subst, arith}
+use Rattle.std.proofs.Common.{◌≡◌, ◌≢◌, inl, inr, ℕ, zero, suc, ◌≤◌, ◌==◌, ◌&&◌, ◌||◌, Bool, true, false, not, IsTrue, Option, None, Some, List, [], ◌∷◌, ◌++◌, length, append_assoc, append-nil, length-append, refl, sym, ap, ◌∙◌, subst, arith}
 use Rattle.std.specs.List.{list_all, list_any, AllByRecursion}
 use Rattle.std.proofs.lemmas.Bool.Decides.{nat_tests}
 use Rattle.sc_book.specs.Books.{opening}
@@ -21,7 +21,7 @@ use Rattle.sc_pool.specs.Plans.{ComesNext, Finished, IsPlaced, planned, script_o
 use Rattle.sc_pool.specs.Pools.{CameNext, IsNext, IsNextOf, IsShown, Ran, rank_of}
 use Rattle.sc_pool.specs.Serving.{IsPrefix, Serves, ServesInPart, commands_of, is_later, is_of, is_of_later, is_served, is_setup, is_setup_first, list_of, served_by}
 use Rattle.sc_pool.specs.SetUps.{FailsIn, IsSetUpBy, MakesPart, commands_in, with_entries}
-use Rattle.sc_pool.specs.Sharing.{Adds, Fails, GoesOn, IsDoubted, IsWhy, Seen}
+use Rattle.sc_pool.specs.Sharing.{IsCalm, Adds, Fails, GoesOn, IsDoubted, IsWhy, Seen}
 use Rattle.sc_pool.proofs.PoolLemmas.{goes_first, goes_then, is_true, rose_sooner, some_not_none, true_is}
 use Rattle.sc_pool.proofs.ServingLemmas.{all_served-append, commands_of-append, no_step, steps-append, steps-none, with_first}
 
@@ -199,7 +199,7 @@ nothing_set_up commands seen = record {
   makes = record {
     entries = sym (append-nil seen.entries);
     by = true_is refl;
-    doubts = refl;
+    calm = record { doubts = refl; faults = refl };
     goes_on = goes_first seen;
   };
 }
@@ -227,7 +227,7 @@ more_set_up commands c rest old between new p a goes =
       makes = record {
         entries = a.entries ∙ ap (λ (es : List Entry). es ++ e ∷ []) p.makes.entries ∙ append_assoc old.entries p.fresh (e ∷ []);
         by = true_is (all_setup-more p.fresh e (is_true p.makes.by) (ap (is_of (Client 0)) a.by));
-        doubts = a.doubts ∙ p.makes.doubts;
+        calm = record { doubts = a.calm.doubts ∙ p.makes.calm.doubts; faults = a.calm.faults ∙ p.makes.calm.faults };
         goes_on = goes_then old between new p.makes.goes_on goes;
       };
     }
@@ -237,10 +237,10 @@ why_after : (by : Who) (c : Command) (fault : CallFault) (old between new : Seen
 why_after by c Disk old between new fresh p why = (
   rose_sooner old.faults between.faults new.faults p.goes_on.later why.0,
   elim why.1 [
-    | inl same ↦ inl (same ∙ p.doubts)
+    | inl same ↦ inl (same ∙ p.calm.doubts)
     | inr d ↦ inr (record {
       doubt = d.doubt;
-      doubts = d.doubts ∙ ap (λ (ds : List Doubt). ds ++ d.doubt ∷ []) p.doubts;
+      doubts = d.doubts ∙ ap (λ (ds : List Doubt). ds ++ d.doubt ∷ []) p.calm.doubts;
       by = d.by;
       command = d.command;
       before = d.before ∙ ap (λ (es : List Entry). length es) p.entries;
@@ -249,8 +249,8 @@ why_after by c Disk old between new fresh p why = (
     })
   ],
 )
-why_after by c Full old between new fresh p why = (why.0, why.1 ∙ p.doubts)
-why_after by c NoMemory old between new fresh p why = why ∙ p.doubts
+why_after by c Full old between new fresh p why = (why.0, why.1 ∙ p.calm.doubts)
+why_after by c NoMemory old between new fresh p why = why ∙ p.calm.doubts
 
 -- the next command met a fault
 pub cut_set_up : (commands : List Command) (c : Command) (rest : List Command) (fault : CallFault) (old between new : Seen)
@@ -262,7 +262,11 @@ cut_set_up commands c rest fault old between new p f goes = record {
   rest = rest;
   whole = p.whole;
   by = p.makes.by;
-  fails = record { entries = f.entries ∙ p.makes.entries; why = why_after (Client 0) c fault old between new p.fresh p.makes f.why };
+  fails = record {
+    entries = f.entries ∙ p.makes.entries;
+    why = why_after (Client 0) c fault old between new p.fresh p.makes f.why;
+    faults = λ other. f.faults other ∙ p.makes.calm.faults;
+  };
   goes_on = goes_then old between new p.makes.goes_on goes;
 }
 
@@ -356,14 +360,14 @@ ran_script s budget old between now worst m f =
       served = serves_in_part s es f.fresh (is_true p.by) whole follows part;
       within = f.within;
       doubtful = f.doubtful;
-      doubts = f.doubts ∙ ap (λ (ds : List Doubt). ds ++ f.doubtful) p.doubts;
+      doubts = f.doubts ∙ ap (λ (ds : List Doubt). ds ++ f.doubtful) p.calm.doubts;
       came_next = all_came_next s budget old between es f.fresh f.doubtful whole f.setup p f.placed;
       goes_on = goes_then old between now p.goes_on f.goes_on;
       shown = shown_too old between now worst p.goes_on f.shown;
       whole = λ none. serves s es f.fresh (is_true p.by) whole follows
           (λ n. subst (λ k. commands_of (Client k) f.fresh ≡ script_of s.clients n) (omega arith) (f.whole none n));
       spent = f.spent;
-      sure = λ low. f.sure low ∙ p.doubts;
+      sure = λ low. record { doubts = (f.sure low).doubts ∙ p.calm.doubts; faults = (f.sure low).faults ∙ p.calm.faults };
     }
 
 -- What a fault in the set-up leaves in doubt.
@@ -421,10 +425,11 @@ shown_first old now c fresh Full why = why.0
 shown_first old now c fresh NoMemory why = tt
 
 sure_first : (old now : Seen) (c : Command) (fresh : List Entry) (fault : CallFault)
-    → IsWhy (Client 0) c fault (with_entries old fresh) now → rank_of (Some fault) ≤ 1 → now.doubts ≡ old.doubts
-sure_first old now c fresh Disk why low = absurd (omega (arith, low))
-sure_first old now c fresh Full why low = why.1
-sure_first old now c fresh NoMemory why low = absurd (omega (arith, low))
+    → IsWhy (Client 0) c fault (with_entries old fresh) now → (fault ≢ Disk → now.faults ≡ old.faults) → rank_of (Some fault) ≤ 1
+    → IsCalm old now
+sure_first old now c fresh Disk why fine low = absurd (omega (arith, low))
+sure_first old now c fresh Full why fine low = record { doubts = why.1; faults = fine (λ e. absurd (cc)) }
+sure_first old now c fresh NoMemory why fine low = absurd (omega (arith, low))
 
 -- the set-up met a fault
 pub ran_cut : (s : Script) (budget : ℕ) (old now : Seen) (fault : CallFault) → HasNoStep s → accepted_steps old.entries ≤ budget
@@ -444,7 +449,7 @@ ran_cut s budget old now fault without within f =
       shown = shown_first old now f.next f.fresh fault f.fails.why;
       whole = λ none. absurd (some_not_none fault none);
       spent = λ none. absurd (some_not_none fault none);
-      sure = sure_first old now f.next f.fresh fault f.fails.why;
+      sure = sure_first old now f.next f.fresh fault f.fails.why f.fails.faults;
     }
 
 -- nothing was made, for want of memory

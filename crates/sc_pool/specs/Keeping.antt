@@ -10,7 +10,7 @@ use Rattle.sc_pool.specs.Plans.{HaveNoStep, IsPlaced, Planned, script_of}
 use Rattle.sc_pool.specs.Pools.{IsShown, rank, rank_of}
 use Rattle.sc_machine.specs.Accepted.{accepted_steps}
 use Rattle.sc_pool.specs.Serving.{commands_of, is_served}
-use Rattle.sc_pool.specs.Sharing.{GoesOn, IsSame, Seen}
+use Rattle.sc_pool.specs.Sharing.{IsCalm, GoesOn, IsSame, Seen}
 use Rattle.sc_pool.specs.declared.client.Client.{Client}
 use Rattle.sc_pool.specs.declared.locked.Round.{Round}
 use Rattle.sc_pool.specs.declared.locked.Round.TheVariants as round
@@ -60,7 +60,7 @@ pub record Keeps (p : Planned) (seen : Seen) (clients : List Client) (worst : Op
   pub goes_on : GoesOn p.start seen
   pub shown : IsShown p.start seen worst
   pub silent : worst ≡ None → (place : ℕ) → IsFree (slice_get clients place)
-  pub sure : rank_of worst ≤ 1 → seen.doubts ≡ p.start.doubts
+  pub sure : rank_of worst ≤ 1 → IsCalm p.start seen
 
 -- a host as a pool begins with it
 pub record StartsAt (start seen : Seen) : Type 0 where

@@ -15,7 +15,7 @@ use Rattle.sc_machine.specs.Commands.{answer}
 use Rattle.sc_machine.specs.Histories.{replay}
 use Rattle.sc_pool.specs.Pools.{IsShown, rank_of}
 use Rattle.sc_pool.specs.Serving.{IsPrefix, commands_of, is_served}
-use Rattle.sc_pool.specs.Sharing.{Seen, GoesOn}
+use Rattle.sc_pool.specs.Sharing.{IsCalm, Seen, GoesOn}
 
 -- the commands of the client of a place; its number is one more
 abbrev pub script_of : List (List Command) → ℕ → List Command
@@ -53,8 +53,8 @@ pub record IsPlaced (p : Planned) (fresh : List Entry) (d : Doubt) : Type 0 wher
 
 -- What the clients and workers leave, by the worst fault that they met: entries were added, of each client the first
 -- commands of its list in order, and of workers accepted steps, within the budget. Without a fault each list is made
--- whole, and where a session is ready still, the steps are used up. No command is in doubt unless the disk failed, or
--- memory was wanting.
+-- whole, and where a session is ready still, the steps are used up. No command is in doubt, and no call of the disk
+-- failed, unless that is the worst fault or memory was wanting.
 pub record Finished (p : Planned) (now : Seen) (worst : Option CallFault) : Type 0 where
   pub fresh : List Entry
   pub begins : now.entries ≡ p.start.entries ++ fresh
@@ -69,7 +69,7 @@ pub record Finished (p : Planned) (now : Seen) (worst : Option CallFault) : Type
   pub shown : IsShown p.start now worst
   pub whole : worst ≡ None → (place : ℕ) → commands_of (Client (place + 1)) fresh ≡ script_of p.scripts place
   pub spent : worst ≡ None → now.ready ≡ true → accepted_steps now.entries ≡ p.budget
-  pub sure : rank_of worst ≤ 1 → now.doubts ≡ p.start.doubts
+  pub sure : rank_of worst ≤ 1 → IsCalm p.start now
 
 -- before a plan is picked
 abbrev pub nothing_planned : Planned

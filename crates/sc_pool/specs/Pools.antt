@@ -16,7 +16,7 @@ use Rattle.sc_machine.specs.Accepted.{accepted_steps, is_accepted}
 use Rattle.sc_machine.specs.Commands.{answer}
 use Rattle.sc_machine.specs.Histories.{replay}
 use Rattle.sc_pool.specs.Serving.{IsPrefix, Serves, ServesInPart, commands_of, list_of}
-use Rattle.sc_pool.specs.Sharing.{Seen, GoesOn}
+use Rattle.sc_pool.specs.Sharing.{IsCalm, Seen, GoesOn}
 
 -- the next command of a client's list; no other client makes one unless the set-up is whole
 pub record IsNextOf (s : Script) (history : List Entry) (n : ℕ) (c : Command) : Type 0 where
@@ -58,7 +58,8 @@ rank_of (Some fault) = rank fault
 
 -- What the jobs of a pool leave of a host that began like this one, by the worst fault that they met: entries that
 -- serve the script in part, with accepted steps within the budget. Without a fault they serve it, and where a session
--- is ready still, the steps are used up. No command is in doubt unless the disk failed, or memory was wanting.
+-- is ready still, the steps are used up. No command is in doubt, and no call of the
+-- disk failed, unless that was told or memory was wanting.
 pub record Ran (s : Script) (budget : ℕ) (start now : Seen) (worst : Option CallFault) : Type 0 where
   pub fresh : List Entry
   pub begins : now.entries ≡ start.entries ++ fresh
@@ -71,4 +72,4 @@ pub record Ran (s : Script) (budget : ℕ) (start now : Seen) (worst : Option Ca
   pub shown : IsShown start now worst
   pub whole : worst ≡ None → Serves s fresh
   pub spent : worst ≡ None → now.ready ≡ true → accepted_steps now.entries ≡ budget
-  pub sure : rank_of worst ≤ 1 → now.doubts ≡ start.doubts
+  pub sure : rank_of worst ≤ 1 → IsCalm start now

@@ -6,7 +6,7 @@ use Rattle.sc_types.specs.declared.command.Command.{Command}
 use Rattle.sc_types.specs.declared.history.Entry.{Entry}
 use Rattle.sc_types.specs.declared.history.Who.TheVariants.{Client}
 use Rattle.sc_pool.specs.Serving.{is_setup}
-use Rattle.sc_pool.specs.Sharing.{Fails, GoesOn, Seen}
+use Rattle.sc_pool.specs.Sharing.{Fails, GoesOn, IsCalm, Seen}
 
 abbrev pub commands_in : List Entry → List Command
 commands_in entries = map (λ (e : Entry). e.command) entries
@@ -15,7 +15,7 @@ commands_in entries = map (λ (e : Entry). e.command) entries
 pub record IsSetUpBy (fresh : List Entry) (old new : Seen) : Type 0 where
   pub entries : new.entries ≡ old.entries ++ fresh
   pub by : IsTrue (list_all is_setup fresh)
-  pub doubts : new.doubts ≡ old.doubts
+  pub calm : IsCalm old new
   pub goes_on : GoesOn old new
 
 -- the first commands were made, and these are left

@@ -1,5 +1,5 @@
 -- What jobs see of a host that they share, and what each of their calls does. This host's own rule.
-use Rattle.std.specs.Prelude.{ℕ, ◌≡◌, ◌≤◌, ◌⊎◌, ◌++◌, Bool, true, false, List, [], ◌∷◌, length}
+use Rattle.std.specs.Prelude.{ℕ, ◌≡◌, ◌≢◌, ◌≤◌, ◌⊎◌, ◌++◌, Bool, true, false, List, [], ◌∷◌, length}
 use Rattle.sc_book.specs.Books.{opening}
 use Rattle.sc_book.specs.declared.doubt.Doubt.{Doubt}
 use Rattle.sc_book.specs.declared.fault.CallFault.{CallFault}
@@ -35,12 +35,17 @@ pub record GoesOn (old new : Seen) : Type 0 where
   pub tight : old.tight → new.tight
   pub kept : (past : List Command) → old.stands past → new.stands past
 
+-- no call of the disk failed, and no command is in doubt that was not before
+pub record IsCalm (old new : Seen) : Type 0 where
+  pub doubts : new.doubts ≡ old.doubts
+  pub faults : new.faults ≡ old.faults
+
 -- ---- for private clauses: what each call does
 
--- no entry was added, and no command is in doubt that was not before
+-- no entry was added
 pub record IsSame (old new : Seen) : Type 0 where
   pub entries : new.entries ≡ old.entries
-  pub doubts : new.doubts ≡ old.doubts
+  pub calm : IsCalm old new
 
 -- one entry was added, that of this caller and command
 pub record Adds (who : Who) (c : Command) (old new : Seen) : Type 0 where
@@ -48,7 +53,7 @@ pub record Adds (who : Who) (c : Command) (old new : Seen) : Type 0 where
   pub entries : new.entries ≡ old.entries ++ entry ∷ []
   pub by : entry.who ≡ who
   pub command : entry.command ≡ c
-  pub doubts : new.doubts ≡ old.doubts
+  pub calm : IsCalm old new
 
 -- one entry was added, an accepted step of a worker
 pub record AddsStep (old new : Seen) : Type 0 where
@@ -56,7 +61,7 @@ pub record AddsStep (old new : Seen) : Type 0 where
   pub entries : new.entries ≡ old.entries ++ entry ∷ []
   pub by : entry.who ≡ Worker
   pub accepted : is_accepted_step entry.command entry.reply ≡ true
-  pub doubts : new.doubts ≡ old.doubts
+  pub calm : IsCalm old new
 
 -- the command is kept as one that a fault of the disk left in doubt, and the host accepted it
 pub record IsDoubted (who : Who) (c : Command) (old new : Seen) : Type 0 where
@@ -74,10 +79,11 @@ IsWhy who c Disk old new = Rose old.faults new.faults × ((new.doubts ≡ old.do
 IsWhy who c Full old new = new.tight × (new.doubts ≡ old.doubts)
 IsWhy who c NoMemory old new = new.doubts ≡ old.doubts
 
--- no entry was added, by this fault
+-- no entry was added, by this fault; the disk failed only where it is the disk's
 pub record Fails (who : Who) (c : Command) (fault : CallFault) (old new : Seen) : Type 0 where
   pub entries : new.entries ≡ old.entries
   pub why : IsWhy who c fault old new
+  pub faults : fault ≢ Disk → new.faults ≡ old.faults
 
 -- the same of a worker's step
 pub record FailsToStep (fault : CallFault) (old new : Seen) : Type 0 where

@@ -28,14 +28,9 @@ pub(crate) fn answer<E: Engine, D: Disk>(
     who: Who,
     command: Command,
 ) -> Result<(), CallFault>
-    ensures ok { OnOk result (Adds who command
-        (seen_of D.tells D.may_leave D.may_have_left D.moment D.faults D.identity book.old)
-        (seen_of D.tells D.may_leave D.may_have_left D.moment D.faults D.identity book.new)) }
-    ensures err { IfErr result (λ fault. Fails who command fault
-        (seen_of D.tells D.may_leave D.may_have_left D.moment D.faults D.identity book.old)
-        (seen_of D.tells D.may_leave D.may_have_left D.moment D.faults D.identity book.new)) }
-    ensures goes_on { GoesOn (seen_of D.tells D.may_leave D.may_have_left D.moment D.faults D.identity book.old)
-        (seen_of D.tells D.may_leave D.may_have_left D.moment D.faults D.identity book.new) }
+    ensures ok { OnOk result (Adds who command (seen_of D.law book.old) (seen_of D.law book.new)) }
+    ensures err { IfErr result (λ fault. Fails who command fault (seen_of D.law book.old) (seen_of D.law book.new)) }
+    ensures goes_on { GoesOn (seen_of D.law book.old) (seen_of D.law book.new) }
 {
     book.call(alloc, who, command)?;
     Ok(())
@@ -46,15 +41,11 @@ pub(crate) fn step_first<E: Engine, D: Disk>(
     book: &mut Book<'_, E, D>,
     alloc: Global,
 ) -> Result<bool, CallFault>
-    ensures steps { MatchResult result (λ made. Steps made
-        (seen_of D.tells D.may_leave D.may_have_left D.moment D.faults D.identity book.old)
-        (seen_of D.tells D.may_leave D.may_have_left D.moment D.faults D.identity book.new))
-        (λ fault. FailsToStep fault (seen_of D.tells D.may_leave D.may_have_left D.moment D.faults D.identity book.old)
-        (seen_of D.tells D.may_leave D.may_have_left D.moment D.faults D.identity book.new)) }
-    ensures none { result ≡ Ok false
-        → (seen_of D.tells D.may_leave D.may_have_left D.moment D.faults D.identity book.new).ready ≡ false }
-    ensures goes_on { GoesOn (seen_of D.tells D.may_leave D.may_have_left D.moment D.faults D.identity book.old)
-        (seen_of D.tells D.may_leave D.may_have_left D.moment D.faults D.identity book.new) }
+    ensures steps { MatchResult result (λ made. Steps made (seen_of D.law book.old) (seen_of D.law book.new))
+        (λ fault. FailsToStep fault (seen_of D.law book.old)
+        (seen_of D.law book.new)) }
+    ensures none { result ≡ Ok false → (seen_of D.law book.new).ready ≡ false }
+    ensures goes_on { GoesOn (seen_of D.law book.old) (seen_of D.law book.new) }
 {
     let Some(session) = book.host().ready_session() else {
         return Ok(false);
@@ -71,10 +62,8 @@ pub(crate) fn claim<E: Engine, D: Disk>(
     alloc: Global,
     budget: u64,
 ) -> Result<Option<Ticket<E>>, NoMemory>
-    ensures same { IsSame (seen_of D.tells D.may_leave D.may_have_left D.moment D.faults D.identity book.old)
-        (seen_of D.tells D.may_leave D.may_have_left D.moment D.faults D.identity book.new) }
-    ensures goes_on { GoesOn (seen_of D.tells D.may_leave D.may_have_left D.moment D.faults D.identity book.old)
-        (seen_of D.tells D.may_leave D.may_have_left D.moment D.faults D.identity book.new) }
+    ensures same { IsSame (seen_of D.law book.old) (seen_of D.law book.new) }
+    ensures goes_on { GoesOn (seen_of D.law book.old) (seen_of D.law book.new) }
 {
     book.claim(alloc, budget)
 }
@@ -86,13 +75,10 @@ pub(crate) fn commit<E: Engine, D: Disk>(
     ticket: Ticket<E>,
     turned: Turned,
 ) -> Result<bool, CallFault>
-    ensures steps { MatchResult result (λ made. Steps made
-        (seen_of D.tells D.may_leave D.may_have_left D.moment D.faults D.identity book.old)
-        (seen_of D.tells D.may_leave D.may_have_left D.moment D.faults D.identity book.new))
-        (λ fault. FailsToStep fault (seen_of D.tells D.may_leave D.may_have_left D.moment D.faults D.identity book.old)
-        (seen_of D.tells D.may_leave D.may_have_left D.moment D.faults D.identity book.new)) }
-    ensures goes_on { GoesOn (seen_of D.tells D.may_leave D.may_have_left D.moment D.faults D.identity book.old)
-        (seen_of D.tells D.may_leave D.may_have_left D.moment D.faults D.identity book.new) }
+    ensures steps { MatchResult result (λ made. Steps made (seen_of D.law book.old) (seen_of D.law book.new))
+        (λ fault. FailsToStep fault (seen_of D.law book.old)
+        (seen_of D.law book.new)) }
+    ensures goes_on { GoesOn (seen_of D.law book.old) (seen_of D.law book.new) }
 {
     // What came between may have left the session without a cue, or with another.
     if !is_ready_at(book.host(), ticket.place()) {
@@ -105,10 +91,8 @@ pub(crate) fn commit<E: Engine, D: Disk>(
 
 /// Gives a claim back.
 pub(crate) fn give_back<E: Engine, D: Disk>(book: &mut Book<'_, E, D>, ticket: Ticket<E>)
-    ensures same { IsSame (seen_of D.tells D.may_leave D.may_have_left D.moment D.faults D.identity book.old)
-        (seen_of D.tells D.may_leave D.may_have_left D.moment D.faults D.identity book.new) }
-    ensures goes_on { GoesOn (seen_of D.tells D.may_leave D.may_have_left D.moment D.faults D.identity book.old)
-        (seen_of D.tells D.may_leave D.may_have_left D.moment D.faults D.identity book.new) }
+    ensures same { IsSame (seen_of D.law book.old) (seen_of D.law book.new) }
+    ensures goes_on { GoesOn (seen_of D.law book.old) (seen_of D.law book.new) }
 {
     book.abandon(ticket);
 }

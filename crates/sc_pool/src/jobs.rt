@@ -152,8 +152,7 @@ fn run_locked<'e, E: Engine, D: Disk, J: Plan + Send + Sync, R: Threads + Wait +
     mut jobs: Vec<Job>,
     locked: Locked<'e, E, D, J>,
 ) -> (Book<'e, E, D>, Option<CallFault>)
-    ensures { Finished J.plan (seen_of D.tells D.may_leave D.may_have_left D.moment D.faults D.identity result.0)
-        result.1 }
+    ensures { Finished J.plan (seen_of D.law result.0) result.1 }
 {
     let threads = jobs.len().max(1);
     let shared = Mutex::new(locked);
@@ -184,13 +183,10 @@ fn run_planned<'e, E: Engine, D: Disk, J: Plan + Send + Sync, R: Threads + Wait 
     requires few { length scripts < 2 ^ 32 - 1 }
     requires no_step { HaveNoStep scripts }
     requires scripts { scripts ≡ J.plan.scripts }
-    requires start { StartsAt J.plan.start
-        (seen_of D.tells D.may_leave D.may_have_left D.moment D.faults D.identity book) }
+    requires start { StartsAt J.plan.start (seen_of D.law book) }
     requires budget { budget ≡ J.plan.budget }
-    requires within { accepted_steps
-        (seen_of D.tells D.may_leave D.may_have_left D.moment D.faults D.identity book).entries ≤ budget }
-    ensures { Finished J.plan (seen_of D.tells D.may_leave D.may_have_left D.moment D.faults D.identity result.0)
-        result.1 }
+    requires within { accepted_steps (seen_of D.law book).entries ≤ budget }
+    ensures { Finished J.plan (seen_of D.law result.0) result.1 }
 {
     let Ok(jobs) = jobs_of(alloc, scripts.len(), workers) else {
         return (book, Some(CallFault::NoMemory));
@@ -218,12 +214,8 @@ fn run<'e, E: Engine, D: Disk, R: Threads + Wait + Sync, G: Gate>(
 ) -> (Book<'e, E, D>, Option<CallFault>)
     requires few { length scripts < 2 ^ 32 - 1 }
     requires no_step { HaveNoStep scripts }
-    requires within { accepted_steps
-        (seen_of D.tells D.may_leave D.may_have_left D.moment D.faults D.identity book).entries ≤ budget }
-    ensures { Finished (planned scripts budget
-        (seen_of D.tells D.may_leave D.may_have_left D.moment D.faults D.identity book.entry))
-        (seen_of D.tells D.may_leave D.may_have_left D.moment D.faults D.identity result.0)
-        result.1 }
+    requires within { accepted_steps (seen_of D.law book).entries ≤ budget }
+    ensures { Finished (planned scripts budget (seen_of D.law book.entry)) (seen_of D.law result.0) result.1 }
 {
     run_planned::<E, D, Brand, R, G>(rt, alloc, book, engine, scripts, workers, budget, gate)
 }
@@ -245,10 +237,8 @@ pub fn run_jobs<'e, E: Engine, D: Disk, R: Threads + Wait + Sync, G: Gate>(
     gate: &G,
 ) -> (Book<'e, E, D>, Option<CallFault>)
     requires no_step { HasNoStep script }
-    requires within { accepted_steps
-        (seen_of D.tells D.may_leave D.may_have_left D.moment D.faults D.identity book).entries ≤ budget }
-    ensures { Ran script budget (seen_of D.tells D.may_leave D.may_have_left D.moment D.faults D.identity book.entry)
-        (seen_of D.tells D.may_leave D.may_have_left D.moment D.faults D.identity result.0) result.1 }
+    requires within { accepted_steps (seen_of D.law book).entries ≤ budget }
+    ensures { Ran script budget (seen_of D.law book.entry) (seen_of D.law result.0) result.1 }
 {
     let mut book = book;
     let Script { setup, clients } = script;

@@ -70,10 +70,10 @@ impl<'e, E: Engine, D: Disk, J: Plan> Model for Locked<'e, E, D, J> {
     ghost coded = { Prim.hlevel (codes, command_type.the_row.coded, entry_type.the_row.coded) };
 
     ghost view = { λ s. progress_of
-        (seen_of D.tells D.may_leave D.may_have_left D.moment D.faults D.identity s.book) s.clients s.worst };
+        (seen_of D.law s.book) s.clients s.worst };
 
     ghost invariant = { λ s. Keeps J.plan
-        (seen_of D.tells D.may_leave D.may_have_left D.moment D.faults D.identity s.book) s.clients s.worst
+        (seen_of D.law s.book) s.clients s.worst
         × (s.budget ≡ J.plan.budget) };
 }
 
@@ -96,12 +96,10 @@ impl<'e, E: Engine, D: Disk, J: Plan> Locked<'e, E, D, J> {
         budget: u64,
     ) -> Locked<'e, E, D, J>
         requires no_step { HaveNoStep J.plan.scripts }
-        requires start { StartsAt J.plan.start
-            (seen_of D.tells D.may_leave D.may_have_left D.moment D.faults D.identity book) }
+        requires start { StartsAt J.plan.start (seen_of D.law book) }
         requires clients { Begins J.plan clients }
         requires budget { budget ≡ J.plan.budget }
-        requires within { accepted_steps
-            (seen_of D.tells D.may_leave D.may_have_left D.moment D.faults D.identity book).entries ≤ budget }
+        requires within { accepted_steps (seen_of D.law book).entries ≤ budget }
     {
         Locked {
             book,
@@ -224,14 +222,10 @@ impl<'e, E: Engine, D: Disk, J: Plan> Locked<'e, E, D, J> {
 
     /// The book, and the worst fault that was met.
     pub(crate) fn into_parts(self) -> (Book<'e, E, D>, Option<CallFault>)
-        ensures keeps { Keeps J.plan
-            (seen_of D.tells D.may_leave D.may_have_left D.moment D.faults D.identity result.0)
-            self.entry.clients self.entry.worst }
+        ensures keeps { Keeps J.plan (seen_of D.law result.0) self.entry.clients self.entry.worst }
         ensures worst { result.1 ≡ self.entry.worst }
-        ensures entries { (seen_of D.tells D.may_leave D.may_have_left D.moment D.faults D.identity result.0).entries
-            ≡ self.entry.entries }
-        ensures ready { (seen_of D.tells D.may_leave D.may_have_left D.moment D.faults D.identity result.0).ready
-            ≡ self.entry.ready }
+        ensures entries { (seen_of D.law result.0).entries ≡ self.entry.entries }
+        ensures ready { (seen_of D.law result.0).ready ≡ self.entry.ready }
     {
         let Locked { book, worst, .. } = self;
         (book, worst)

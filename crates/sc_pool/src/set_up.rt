@@ -15,12 +15,10 @@ pub(crate) fn set_up<E: Engine, D: Disk>(
     book: &mut Book<'_, E, D>,
     commands: Sequence<Command>,
 ) -> Result<(), CallFault>
-    ensures { MatchResult result (λ _. MakesPart commands []
-        (seen_of D.tells D.may_leave D.may_have_left D.moment D.faults D.identity book.old)
-        (seen_of D.tells D.may_leave D.may_have_left D.moment D.faults D.identity book.new))
+    ensures { MatchResult result (λ _. MakesPart commands [] (seen_of D.law book.old) (seen_of D.law book.new))
         (λ fault. FailsIn commands fault
-        (seen_of D.tells D.may_leave D.may_have_left D.moment D.faults D.identity book.old)
-        (seen_of D.tells D.may_leave D.may_have_left D.moment D.faults D.identity book.new)) }
+        (seen_of D.law book.old)
+        (seen_of D.law book.new)) }
 {
     let mut left = Remaining::new(commands);
     while let Some(command) = left.take_first() {

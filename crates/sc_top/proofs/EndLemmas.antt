@@ -13,7 +13,7 @@ use Rattle.sc_machine.specs.Accepted.{is_accepted}
 use Rattle.sc_machine.specs.Commands.{answer}
 use Rattle.sc_machine.specs.Cues.{ready}
 use Rattle.sc_machine.specs.Histories.{replay}
-use Rattle.sc_dev.specs.Disks.{DiskOf}
+use Rattle.sc_dev.specs.Disks.{DiskLaw, DiskOf}
 use Rattle.sc_journal.specs.Journals.{IsFull}
 use Rattle.sc_pool.specs.Books.{seen_of}
 use Rattle.sc_pool.specs.Pools.{CameNext, IsNext, Ran}
@@ -56,21 +56,20 @@ whole_front all front [] whole long = sym (append-nil front) ∙ sym whole
 whole_front all front (x ∷ rest) whole long =
     absurd (omega (arith, long, ap (λ xs. length xs) whole, length-append front (x ∷ rest)))
 
-module _ {D : Type 0} (tells : Type 0) (reads : D → DiskOf) (leaves : D → DiskOf → Type 0) (left : D → ℕ → DiskOf → Type 0)
-    (moment faults identity : D → ℕ) (standing : (d : D) → leaves d (reads d)) where
+module _ {D : Type 0} (law : DiskLaw D) (standing : (d : D) → law.may_leave d (law.reads d)) where
   abbrev Known : D → D → DiskKnown
-  Known old new = disk_known tells reads leaves faults old new
+  Known old new = disk_known law old new
 
   abbrev seen : BookOf D → Seen
-  seen = seen_of tells leaves left moment faults identity
+  seen = seen_of law
 
-  module _ (start : D) (old : BookOf D) (o : IsOpened tells leaves left moment old) (s : Script) (budget : ℕ)
-      (steps : HasNoStep s) (book : BookOf D) (on : GoesOn tells leaves left moment faults identity old book)
-      (earlier : faults start ≤ faults old.journal.disk) where
+  module _ (start : D) (old : BookOf D) (o : IsOpened law old) (s : Script) (budget : ℕ)
+      (steps : HasNoStep s) (book : BookOf D) (on : GoesOn law old book)
+      (fine : law.faults old.journal.disk ≡ law.faults start) where
     abbrev K : DiskKnown
     K = Known start book.journal.disk
 
-    is_last : IsBook tells leaves left moment o.past book
+    is_last : IsBook law o.past book
     is_last = on.kept o.past o.book
 
     -- ---- with workers
@@ -103,10 +102,10 @@ module _ {D : Type 0} (tells : Type 0) (reads : D → DiskOf) (leaves : D → Di
         run = λ none. absurd (some_workers none);
       }
 
-      pooled_stored : book.doubts ≡ old.doubts → tells
+      pooled_stored : book.doubts ≡ old.doubts → law.tells
           → IsStored K (count_after o.past book.history) (host_after o.past book.history)
       pooled_stored same told =
-          stored_of tells reads leaves left moment faults identity standing start o.past book is_last (same ∙ o.doubts) told
+          stored_of law standing start o.past book is_last (same ∙ o.doubts) told
 
       -- the command that is in doubt in the journal came next
       came : (d : Doubt) → Contains book.doubts d → CameNext s (seen old) r.fresh d
@@ -123,8 +122,8 @@ module _ {D : Type 0} (tells : Type 0) (reads : D → DiskOf) (leaves : D → Di
           subst (λ (h : List Entry). IsNext s h d.who d.command)
           (whole_front r.fresh c.front c.rest c.whole long ∙ sym all_fresh) c.next
 
-      pooled_doubtful : tells → IsDoubtful K o.past s workers budget book.history
-      pooled_doubtful told = record { reads = each (reads book.journal.disk) (standing book.journal.disk); stops = each }
+      pooled_doubtful : law.tells → IsDoubtful K o.past s workers budget book.history
+      pooled_doubtful told = record { reads = each (law.reads book.journal.disk) (standing book.journal.disk); stops = each }
         where
           g : HostImage
           g = host_after o.past book.history
@@ -147,12 +146,11 @@ module _ {D : Type 0} (tells : Type 0) (reads : D → DiskOf) (leaves : D → Di
                 stands = m.2 d.doubt.command d.spells accepted;
               })
 
-          each : (c : DiskOf) → leaves book.journal.disk c → IsWithOrWithout o.past s workers budget book.history c
-          each c may = elim (image_stands tells reads leaves left moment faults identity standing o.past book is_last told
-              book.journal.doubt refl c may) [
-                | inl all ↦ inl all
-                | inr m ↦ more_of c m
-              ]
+          each : (c : DiskOf) → law.may_leave book.journal.disk c → IsWithOrWithout o.past s workers budget book.history c
+          each c may = elim (image_stands law standing o.past book is_last told book.journal.doubt refl c may) [
+            | inl all ↦ inl all
+            | inr m ↦ more_of c m
+          ]
 
       pooled_tight : IsFull book.journal.end book.journal.next most_body → IsTight K o.past book.history
       pooled_tight is_full = record {
@@ -168,13 +166,13 @@ module _ {D : Type 0} (tells : Type 0) (reads : D → DiskOf) (leaves : D → Di
     pooled_quiet more r None none word is =
         let quiet_end : end.Quiet ≡ word = cc in
         subst (Ends K o.past s (suc more) budget book.history) quiet_end
-        (quiet (pooled_whole more None r refl) (sym (ap ready is_last.host) ∙ none)
-        (pooled_stored more None r (r.sure (omega arith))))
+        (quiet (pooled_whole more None r refl) (sym (ap ready is_last.host) ∙ none) ((r.sure (omega arith)).faults ∙ fine)
+        (pooled_stored more None r (r.sure (omega arith)).doubts))
     pooled_quiet more r (Some name) some word is =
         let spent_end : end.Budget ≡ word = cc in
         subst (Ends K o.past s (suc more) budget book.history) spent_end
         (spent (pooled_whole more None r refl) (λ none. never_none name (sym some ∙ ap ready is_last.host ∙ none))
-        (pooled_stored more None r (r.sure (omega arith))))
+        ((r.sure (omega arith)).faults ∙ fine) (pooled_stored more None r (r.sure (omega arith)).doubts))
 
     pooled_ends : (more : ℕ) (fault : Option CallFault) → Ran s budget (seen old) (seen book) fault → (word : End)
         → end_by fault (is_some (ready book.host)) ≡ Some word → Ends K o.past s (suc more) budget book.history word
@@ -183,36 +181,37 @@ module _ {D : Type 0} (tells : Type 0) (reads : D → DiskOf) (leaves : D → Di
         let disk_end : end.Disk ≡ word = cc in
         let rose = r.shown in
         subst (Ends K o.past s (suc more) budget book.history) disk_end
-        (failed (pooled_part more (Some call.Disk) r) (omega (arith, earlier, rose)) (pooled_doubtful more (Some call.Disk) r))
+        (failed (pooled_part more (Some call.Disk) r) (omega (arith, fine, rose)) (pooled_doubtful more (Some call.Disk) r))
     pooled_ends more (Some call.Full) r word is =
         let full_end : end.Full ≡ word = cc in
         subst (Ends K o.past s (suc more) budget book.history) full_end
         (tight (λ none. omega (arith, none)) (pooled_part more (Some call.Full) r)
-        (pooled_tight more (Some call.Full) r r.shown) (pooled_stored more (Some call.Full) r (r.sure (omega arith))))
+        (pooled_tight more (Some call.Full) r r.shown) ((r.sure (omega arith)).faults ∙ fine)
+        (pooled_stored more (Some call.Full) r (r.sure (omega arith)).doubts))
     pooled_ends more (Some call.NoMemory) r word is = absurd (cc)
 
     -- ---- alone or with workers
 
     abbrev How : ℕ → Option CallFault → Type 0
-    How workers fault = HowRan tells leaves left moment faults identity old book s workers budget fault
+    How workers fault = HowRan law old book s workers budget fault
 
     ends_by : (workers : ℕ) (fault : Option CallFault) → How workers fault → (word : End)
         → end_by fault (is_some (ready book.host)) ≡ Some word → Ends K o.past s workers budget book.history word
     ends_by zero fault how word is =
-        ends_of tells reads leaves left moment faults identity standing start old o s budget steps (run_of book how.0) on earlier
+        ends_of law standing start old o s budget steps (run_of book how.0) on fine
         fault how.1 word is
     ends_by (suc more) fault how word is = pooled_ends more fault how word is
 
     promise_by : (workers : ℕ) (fault : Option CallFault) → How workers fault → IsHistoryOf o.past s workers budget book.history
     promise_by zero fault how =
-        promise_of tells reads leaves left moment faults identity standing start old o s budget steps (run_of book how.0) on earlier
+        promise_of law standing start old o s budget steps (run_of book how.0) on fine
         fault how.1
     promise_by (suc more) fault how = pooled_part more fault how
 
-    holds_by : (workers : ℕ) (fault : Option CallFault) → How workers fault → tells
+    holds_by : (workers : ℕ) (fault : Option CallFault) → How workers fault → law.tells
         → IsDoubtful K o.past s workers budget book.history
     holds_by zero fault how told =
-        holds_of tells reads leaves left moment faults identity standing start old o s budget steps (run_of book how.0) on earlier
+        holds_of law standing start old o s budget steps (run_of book how.0) on fine
         fault how.1 told
     holds_by (suc more) fault how told = pooled_doubtful more fault how told
 
@@ -220,13 +219,16 @@ module _ {D : Type 0} (tells : Type 0) (reads : D → DiskOf) (leaves : D → Di
     opening_host = o.book.host ∙ ap (replay (opening o.past)) o.history
 
     abbrev Stood : Type 0
-    Stood = tells → (n : ℕ) (g : HostImage) → StandsFor (reads start) n g → (old.opened ≡ n) × (old.host ≡ g)
+    Stood = (law.tells → (n : ℕ) (g : HostImage) → StandsFor (law.reads start) n g → (old.opened ≡ n) × (old.host ≡ g))
+        × (law.tells → StandsFor (law.reads start) old.opened old.host)
 
     abbrev opened_by : Stood → Opening K
     opened_by stood = record {
       past = o.past;
       accepted = o.book.past_accepted;
-      stood = λ told n g is. (sym o.book.opened ∙ (stood told n g is).0, sym opening_host ∙ (stood told n g is).1);
+      read = λ told. subst (λ (n : ℕ). StandsFor (law.reads start) n (opening o.past)) o.book.opened
+          (subst (λ (g : HostImage). StandsFor (law.reads start) old.opened g) opening_host (stood.1 told));
+      stood = λ told n g is. (sym o.book.opened ∙ (stood.0 told n g is).0, sym opening_host ∙ (stood.0 told n g is).1);
     }
 
     -- what is said of it

@@ -1,5 +1,5 @@
 -- What a journal holds when it was opened, when a run ended, and when it was made.
-use Rattle.std.proofs.Common.{◌≡◌, ◌∙◌, ◌⊎◌, inl, inr, ℕ, ◌+◌, ◌≤◌, true, Option, None, Some, Result, Ok, Err, IfOk, OnErr, List, [], ◌∷◌, ◌++◌, length, append-nil, length-append, refl, sym, ap, subst, arith}
+use Rattle.std.proofs.Common.{◌≡◌, ◌≢◌, ◌∙◌, ◌⊎◌, inl, inr, ℕ, ◌+◌, ◌≤◌, true, Option, None, Some, Result, Ok, Err, IfOk, OnErr, List, [], ◌∷◌, ◌++◌, length, append-nil, length-append, refl, sym, ap, subst, arith}
 use Rattle.std.specs.Prelude.{is_some}
 use Rattle.std.specs.List.{Contains}
 use Rattle.std.proofs.lemmas.List.Elements.{Contains-push_cases}
@@ -17,7 +17,7 @@ use Rattle.sc_machine.specs.Cues.{ready}
 use Rattle.sc_machine.specs.Histories.{IsLegal, replay}
 use Rattle.sc_machine.specs.Hosts.{empty_host}
 use Rattle.sc_machine.proofs.AcceptedLemmas.{accepted_more, after_append}
-use Rattle.sc_dev.specs.Disks.{DiskOf, Within}
+use Rattle.sc_dev.specs.Disks.{DiskLaw, DiskOf, Within}
 use Rattle.sc_journal.specs.Journals.{IsFull, StandsAt}
 use Rattle.sc_journal.specs.Texts.{Holds}
 use Rattle.sc_journal.proofs.Gates.{with-either}
@@ -72,17 +72,16 @@ stands_more past h bodies body c d before legal spell one taken holds =
     (omega (arith, length-append past (accepted_commands h), length-append all (c ∷ [])))
     (ap (λ (g : HostImage). (answer g c).host) same ∙ sym (after_append empty_host all (c ∷ [])))
 
-module _ {D : Type 0} (tells : Type 0) (reads : D → DiskOf) (leaves : D → DiskOf → Type 0) (left : D → ℕ → DiskOf → Type 0)
-    (moment faults identity : D → ℕ) (standing : (d : D) → leaves d (reads d)) where
+module _ {D : Type 0} (law : DiskLaw D) (standing : (d : D) → law.may_leave d (law.reads d)) where
   abbrev pub Is : List Command → BookOf D → Type 0
-  Is past b = IsBook tells leaves left moment past b
+  Is past b = IsBook law past b
 
   abbrev pub Known : D → D → DiskKnown
-  Known old new = disk_known tells reads leaves faults old new
+  Known old new = disk_known law old new
 
   -- an image of a journal in which nothing is in doubt, or one body
-  pub image_stands : (past : List Command) (b : BookOf D) → Is past b → tells → (doubt : Option (List ℕ))
-      → b.journal.doubt ≡ doubt → (c : DiskOf) → leaves b.journal.disk c
+  pub image_stands : (past : List Command) (b : BookOf D) → Is past b → law.tells → (doubt : Option (List ℕ))
+      → b.journal.doubt ≡ doubt → (c : DiskOf) → law.may_leave b.journal.disk c
       → StandsFor c (count_after past b.history) (host_after past b.history)
       ⊎ ((body : List ℕ) × (doubt ≡ Some body) × ((x : Command) → Spells body x
       → is_accepted (answer (host_after past b.history) x).reply ≡ true
@@ -93,7 +92,7 @@ module _ {D : Type 0} (tells : Type 0) (reads : D → DiskOf) (leaves : D → Di
       (subst (λ (d : Option (List ℕ)). StandsAt d first_head all.bodies c) none (all.keeps.images c may)))
   image_stands past b is told (Some body) some c may = by (with-either first_head all.bodies body c.journal
       (subst (λ (d : Option (List ℕ)). StandsAt d first_head all.bodies c) some (all.keeps.images c may))) where
-        all : HoldsAll tells leaves b.journal (past ++ accepted_commands b.history)
+        all : HoldsAll law b.journal (past ++ accepted_commands b.history)
         all = is.stored told
 
         by : Holds first_head all.bodies c.journal ⊎ Holds first_head (all.bodies ++ body ∷ []) c.journal
@@ -110,10 +109,10 @@ module _ {D : Type 0} (tells : Type 0) (reads : D → DiskOf) (leaves : D → Di
         )
 
   -- where no command is in doubt, the disk stands for all that was accepted
-  pub stored_of : (old : D) (past : List Command) (b : BookOf D) → Is past b → b.doubts ≡ [] → tells
+  pub stored_of : (old : D) (past : List Command) (b : BookOf D) → Is past b → b.doubts ≡ [] → law.tells
       → IsStored (Known old b.journal.disk) (count_after past b.history) (host_after past b.history)
   stored_of old past b is none told = record {
-    reads = each (reads b.journal.disk) (standing b.journal.disk);
+    reads = each (law.reads b.journal.disk) (standing b.journal.disk);
     stops = each;
   } where
     no_doubt : (body : List ℕ) → b.journal.doubt ≡ Some body → ⊥
@@ -122,14 +121,14 @@ module _ {D : Type 0} (tells : Type 0) (reads : D → DiskOf) (leaves : D → Di
         let one : Contains [] last.doubt = subst (λ (ds : List Doubt). Contains ds last.doubt) none last.one in
         omega (arith, one.1)
 
-    each : (c : DiskOf) → leaves b.journal.disk c
+    each : (c : DiskOf) → law.may_leave b.journal.disk c
         → StandsFor c (count_after past b.history) (host_after past b.history)
     each c may = pick (λ taken. taken) (λ more. absurd (no_doubt more.0 more.1))
         (image_stands past b is told b.journal.doubt refl c may)
 
   -- so it stands for that, with or without a command in doubt
   pub doubtful_stored : (old : D) (past : List Command) (b : BookOf D) (script : Script) (workers budget : ℕ) → Is past b
-      → b.doubts ≡ [] → tells → IsDoubtful (Known old b.journal.disk) past script workers budget b.history
+      → b.doubts ≡ [] → law.tells → IsDoubtful (Known old b.journal.disk) past script workers budget b.history
   doubtful_stored old past b script workers budget is none told =
       let all = stored_of old past b is none told in
       record { reads = inl all.reads; stops = λ c may. inl (all.stops c may) }
@@ -137,9 +136,9 @@ module _ {D : Type 0} (tells : Type 0) (reads : D → DiskOf) (leaves : D → Di
   -- where the next command of a run is in doubt, with or without that
   pub doubtful_of : (old : D) (past : List Command) (b : BookOf D) (script : Script) (workers budget : ℕ) (d : Doubt)
       (e : Entry) → Is past b → b.doubts ≡ d ∷ [] → d.command ≡ e.command → ComesNext past script workers budget b.history e
-      → tells → IsDoubtful (Known old b.journal.disk) past script workers budget b.history
+      → law.tells → IsDoubtful (Known old b.journal.disk) past script workers budget b.history
   doubtful_of old past b script workers budget d e is one same comes told = record {
-    reads = each (reads b.journal.disk) (standing b.journal.disk);
+    reads = each (law.reads b.journal.disk) (standing b.journal.disk);
     stops = each;
   } where
     spells : (body : List ℕ) → b.journal.doubt ≡ Some body → Spells body e.command
@@ -150,7 +149,7 @@ module _ {D : Type 0} (tells : Type 0) (reads : D → DiskOf) (leaves : D → Di
         (Contains-push_cases [] d last.doubt there) in
         subst (Spells body) (sym (ap (λ (x : Doubt). x.command) is_it) ∙ same) last.spells
 
-    each : (c : DiskOf) → leaves b.journal.disk c → IsWithOrWithout past script workers budget b.history c
+    each : (c : DiskOf) → law.may_leave b.journal.disk c → IsWithOrWithout past script workers budget b.history c
     each c may = pick (λ taken. inl taken)
         (λ more. inr (record {
           entry = e;
@@ -160,9 +159,9 @@ module _ {D : Type 0} (tells : Type 0) (reads : D → DiskOf) (leaves : D → Di
 
   -- ---- the run of one thread that has ended
 
-  module _ (start : D) (old : BookOf D) (o : IsOpened tells leaves left moment old) (s : Script) (budget : ℕ)
-      (steps : HasNoStep s) (run : RunOf D) (on : GoesOn tells leaves left moment faults identity old run.book)
-      (earlier : faults start ≤ faults old.journal.disk) where
+  module _ (start : D) (old : BookOf D) (o : IsOpened law old) (s : Script) (budget : ℕ)
+      (steps : HasNoStep s) (run : RunOf D) (on : GoesOn law old run.book)
+      (fine : law.faults old.journal.disk ≡ law.faults start) where
     abbrev pub first : RunOf D
     first = record { book = old; left = budget }
 
@@ -205,12 +204,12 @@ module _ {D : Type 0} (tells : Type 0) (reads : D → DiskOf) (leaves : D → Di
       accepted = accepted_by faced.entry.command taken;
     }
 
-    stored_by : run.book.doubts ≡ old.doubts → tells
+    stored_by : run.book.doubts ≡ old.doubts → law.tells
         → IsStored K (count_after o.past run.book.history) (host_after o.past run.book.history)
     stored_by same told = stored_of start o.past run.book is_last (same ∙ o.doubts) told
 
     doubtful_by : (added : List Entry) → run.book.history ≡ old.history ++ added → (faced : Faces first run (in_turn s) added)
-        → (run.book.doubts ≡ old.doubts) ⊎ IsDoubtOf old run.book faced.entry.command → tells
+        → (run.book.doubts ≡ old.doubts) ⊎ IsDoubtOf old run.book faced.entry.command → law.tells
         → IsDoubtful K o.past s 0 budget run.book.history
     doubtful_by added is faced (inl same) told =
         doubtful_stored start o.past run.book s 0 budget is_last (same ∙ o.doubts) told
@@ -220,7 +219,7 @@ module _ {D : Type 0} (tells : Type 0) (reads : D → DiskOf) (leaves : D → Di
         (comes_by added is faced one.accepted) told
 
     -- the run came to its end
-    whole_by : Goes first run (in_turn s) [] → HasStepped run → IsWholeHistoryOf o.past s 0 budget run.book.history
+    whole_by : Goes law first run (in_turn s) [] → HasStepped run → IsWholeHistoryOf o.past s 0 budget run.book.history
     whole_by goes stepped =
         let ends : IsRun old.host (in_turn s) budget (goes.added ++ []) = goes.runs [] (stepped []) in
         let added = all_added goes.added goes.history in
@@ -228,21 +227,21 @@ module _ {D : Type 0} (tells : Type 0) (reads : D → DiskOf) (leaves : D → Di
         (subst (IsRun (opening o.past) (in_turn s) budget) (append-nil goes.added ∙ sym added)
         (subst (λ g. IsRun g (in_turn s) budget (goes.added ++ [])) first_host ends))
 
-    ends_whole : Goes first run (in_turn s) [] → HasStepped run → (r : Option (List ℕ)) → ready run.book.host ≡ r
+    ends_whole : Goes law first run (in_turn s) [] → HasStepped run → (r : Option (List ℕ)) → ready run.book.host ≡ r
         → (word : End) → end_by None (is_some r) ≡ Some word → Ends K o.past s 0 budget run.book.history word
     ends_whole goes stepped None none word is =
         let quiet_end : end.Quiet ≡ word = cc in
         subst (Ends K o.past s 0 budget run.book.history) quiet_end
-        (quiet (whole_by goes stepped) (sym (ap ready is_last.host) ∙ none) (stored_by goes.doubts))
+        (quiet (whole_by goes stepped) (sym (ap ready is_last.host) ∙ none) (goes.faults ∙ fine) (stored_by goes.doubts))
     ends_whole goes stepped (Some name) some word is =
         let spent_end : end.Budget ≡ word = cc in
         subst (Ends K o.past s 0 budget run.book.history) spent_end
-        (spent (whole_by goes stepped) (λ none. is_none (sym some ∙ ap ready is_last.host ∙ none)) (stored_by goes.doubts)) where
+        (spent (whole_by goes stepped) (λ none. is_none (sym some ∙ ap ready is_last.host ∙ none)) (goes.faults ∙ fine)
+        (stored_by goes.doubts)) where
           is_none : Some name ≡ None → ⊥
           is_none e = absurd (cc)
 
-    no_room_by : (c : Entry) → HadNoRoom tells leaves left moment old run.book c.command
-        → HasNoRoomFor K o.past run.book.history c
+    no_room_by : (c : Entry) → HadNoRoom law old run.book c.command → HasNoRoomFor K o.past run.book.history c
     no_room_by c had =
         let at = had.kept o.past o.book in
         record {
@@ -258,66 +257,68 @@ module _ {D : Type 0} (tells : Type 0) (reads : D → DiskOf) (leaves : D → Di
               (at.next ∙ ap (λ (h : List Entry). count_after o.past h + 1) had.history) had.no_room.full;
         }
 
-    ends_stopped : (fault : CallFault) → Stops tells leaves left moment faults fault first run (in_turn s) → (word : End)
+    ends_stopped : (fault : CallFault) → Stops law fault first run (in_turn s) → (word : End)
         → end_by (Some fault) (is_some (ready run.book.host)) ≡ Some word → Ends K o.past s 0 budget run.book.history word
-    ends_stopped fault x word is = by fault x.why is where
+    ends_stopped fault x word is = by fault x.why x.faults is where
       promise : IsHistoryOf o.past s 0 budget run.book.history
       promise = promise_by x.added run.book.host x.history x.reaches
 
-      by : (f : CallFault) → Stopped tells leaves left moment faults first run (in_turn s) x.added f
+      by : (f : CallFault) → Stopped law first run (in_turn s) x.added f
+          → (f ≢ call.Disk → law.faults run.book.journal.disk ≡ law.faults old.journal.disk)
           → end_by (Some f) (is_some (ready run.book.host)) ≡ Some word → Ends K o.past s 0 budget run.book.history word
-      by call.Disk (unanswered _ faced why) e =
+      by call.Disk (unanswered _ faced why) same e =
           let disk_end : end.Disk ≡ word = cc in
           subst (Ends K o.past s 0 budget run.book.history) disk_end
-          (failed promise (omega (arith, earlier, why.0)) (doubtful_by x.added x.history faced why.1))
-      by call.Full (unanswered _ faced why) e =
+          (failed promise (omega (arith, fine, why.0)) (doubtful_by x.added x.history faced why.1))
+      by call.Full (unanswered _ faced why) same e =
           let full_end : end.Full ≡ word = cc in
           subst (Ends K o.past s 0 budget run.book.history) full_end
           (full faced.entry promise (comes_by x.added x.history faced
           (sym (ap (λ (g : HostImage). is_accepted (answer g faced.entry.command).reply) why.1.host) ∙ why.1.no_room.accepted))
-          (no_room_by faced.entry why.1) (stored_by why.0))
-      by call.NoMemory y e = absurd (cc)
+          (no_room_by faced.entry why.1) (same (λ f. absurd (cc)) ∙ fine) (stored_by why.0))
+      by call.NoMemory y same e = absurd (cc)
 
     -- how it ended
-    pub ends_of : (fault : Option CallFault) → HowEnded tells leaves left moment faults first run (in_turn s) fault
+    pub ends_of : (fault : Option CallFault) → HowEnded law first run (in_turn s) fault
         → (word : End) → end_by fault (is_some (ready run.book.host)) ≡ Some word → Ends K o.past s 0 budget run.book.history word
     ends_of None how word is = ends_whole how.0 how.1 (ready run.book.host) refl word is
     ends_of (Some fault) how word is = ends_stopped fault how word is
 
     -- what it came to in any case
 
-    pub promise_of : (fault : Option CallFault) → HowEnded tells leaves left moment faults first run (in_turn s) fault
+    pub promise_of : (fault : Option CallFault) → HowEnded law first run (in_turn s) fault
         → IsHistoryOf o.past s 0 budget run.book.history
     promise_of None how = (whole_by how.0 how.1).part
     promise_of (Some fault) how = promise_by how.added run.book.host how.history how.reaches
 
-    doubtful_stopped : (fault : CallFault) → Stops tells leaves left moment faults fault first run (in_turn s) → tells
+    doubtful_stopped : (fault : CallFault) → Stops law fault first run (in_turn s) → law.tells
         → IsDoubtful K o.past s 0 budget run.book.history
     doubtful_stopped fault x told = by fault x.why where
-      by : (f : CallFault) → Stopped tells leaves left moment faults first run (in_turn s) x.added f
+      by : (f : CallFault) → Stopped law first run (in_turn s) x.added f
           → IsDoubtful K o.past s 0 budget run.book.history
       by call.Disk (unanswered _ faced why) = doubtful_by x.added x.history faced why.1 told
       by call.Full (unanswered _ faced why) = doubtful_by x.added x.history faced (inl why.0) told
       by call.NoMemory (unanswered _ faced why) = doubtful_by x.added x.history faced (inl why) told
       by call.NoMemory (no_memory same) = doubtful_stored start o.past run.book s 0 budget is_last (same ∙ o.doubts) told
 
-    pub holds_of : (fault : Option CallFault) → HowEnded tells leaves left moment faults first run (in_turn s) fault → tells
+    pub holds_of : (fault : Option CallFault) → HowEnded law first run (in_turn s) fault → law.tells
         → IsDoubtful K o.past s 0 budget run.book.history
     holds_of None how told = doubtful_stored start o.past run.book s 0 budget is_last (how.0.doubts ∙ o.doubts) told
     holds_of (Some fault) how told = doubtful_stopped fault how told
 
   -- ---- a journal that is shown
 
-  pub shows_of : (start : D) (b : BookOf D) (o : IsOpened tells leaves left moment b)
-      → Within (leaves start) (leaves b.journal.disk)
-      → (tells → (n : ℕ) (g : HostImage) → StandsFor (reads start) n g → (b.opened ≡ n) × (b.host ≡ g))
+  pub shows_of : (start : D) (b : BookOf D) (o : IsOpened law b)
+      → Within (law.may_leave start) (law.may_leave b.journal.disk)
+      → (law.tells → (n : ℕ) (g : HostImage) → StandsFor (law.reads start) n g → (b.opened ≡ n) × (b.host ≡ g))
+      → (law.tells → StandsFor (law.reads start) b.opened b.host)
       → (n : ℕ) (g : HostImage) (es : List Entry) → b.opened ≡ n → b.host ≡ g → b.history ≡ es
       → (status : Status) (bytes : List ℕ) → status ≡ done.Done → bytes ≡ report n g es end.Shown
       → Shows (Known start b.journal.disk) status bytes
-  shows_of start b o within stood n g es is_opened is_host is_history status bytes is_done is_report =
+  shows_of start b o within stood read n g es is_opened is_host is_history status bytes is_done is_report =
       let none = o.history in
       let none_more : length o.past + 0 ≡ length o.past = omega arith in
-      let stored : tells → IsStored (Known start b.journal.disk) (length o.past) (opening o.past) =
+      let stored : law.tells → IsStored (Known start b.journal.disk) (length o.past) (opening o.past) =
       λ told. subst (λ (x : ℕ). IsStored (Known start b.journal.disk) x (opening o.past)) none_more
       (subst (λ (h : List Entry). IsStored (Known start b.journal.disk) (length o.past + length (accepted_commands h)) (replay (opening o.past) h)) none
       (stored_of start o.past b o.book o.doubts told)) in
@@ -331,14 +332,16 @@ module _ {D : Type 0} (tells : Type 0) (reads : D → DiskOf) (leaves : D → Di
       (shown (record {
         past = o.past;
         accepted = o.book.past_accepted;
+        read = λ told. subst (λ (m : ℕ). StandsFor (law.reads start) m (opening o.past)) o.book.opened
+            (subst (λ (x : HostImage). StandsFor (law.reads start) b.opened x) host (read told));
         stood = λ told m x is. (sym o.book.opened ∙ (stood told m x is).0, sym host ∙ (stood told m x is).1);
       }) (λ told. within) stored))
 
   -- a journal that was made
-  pub made_of : (old new : D) → ((c : DiskOf) → leaves new c → Holds first_head [] c.journal)
+  pub made_of : (old new : D) → ((c : DiskOf) → law.may_leave new c → Holds first_head [] c.journal)
       → IsStored (Known old new) 0 empty_host
-  made_of old new made = record { reads = each (reads new) (standing new); stops = each } where
-    each : (c : DiskOf) → leaves new c → StandsFor c 0 empty_host
+  made_of old new made = record { reads = each (law.reads new) (standing new); stops = each } where
+    each : (c : DiskOf) → law.may_leave new c → StandsFor c 0 empty_host
     each c may = stands c [] [] 0 empty_host (made c may) tt tt refl refl
 
 -- a journal that was not opened

@@ -10,7 +10,7 @@ use Rattle.sc_machine.specs.Commands.{answer}
 use Rattle.sc_machine.specs.Histories.{replay}
 use Rattle.sc_machine.specs.Hosts.{empty_host}
 use Rattle.sc_dev.specs.Causes.{Rose}
-use Rattle.sc_dev.specs.Disks.{DiskOf, Within}
+use Rattle.sc_dev.specs.Disks.{DiskLaw, DiskOf, Within}
 use Rattle.sc_journal.specs.Journals.{IsFull}
 use Rattle.sc_journal.specs.Texts.{front, has_open_header}
 use Rattle.sc_script.specs.declared.script.Script.{Script}
@@ -23,23 +23,25 @@ use Rattle.sc_top.specs.declared.status.Status.{Status}
 use Rattle.sc_top.specs.declared.status.Status.TheVariants as status
 
 -- What is known of a disk before and after a call: whether it tells what it holds; what reads gave and a stop might
--- leave before; whether its count of faults rose; and what reads give and a stop may leave after.
+-- leave before; whether its count of faults rose, and whether it stayed; and what reads give and a stop may leave after.
 pub record DiskKnown : Type 1 where
   pub told : Type 0
   pub read : DiskOf
   pub left : DiskOf → Type 0
   pub failed : Type 0
+  pub fine : Type 0
   pub reads : DiskOf
   pub leaves : DiskOf → Type 0
 
-abbrev pub disk_known : {D : Type 0} → Type 0 → (D → DiskOf) → (D → DiskOf → Type 0) → (D → ℕ) → D → D → DiskKnown
-disk_known told reads leaves faults old new = record {
-  told = told;
-  read = reads old;
-  left = leaves old;
-  failed = Rose (faults old) (faults new);
-  reads = reads new;
-  leaves = leaves new;
+abbrev pub disk_known : {D : Type 0} → DiskLaw D → D → D → DiskKnown
+disk_known law old new = record {
+  told = law.tells;
+  read = law.reads old;
+  left = law.may_leave old;
+  failed = Rose (law.faults old) (law.faults new);
+  fine = law.faults new ≡ law.faults old;
+  reads = law.reads new;
+  leaves = law.may_leave new;
 }
 
 -- nothing was written: a stop leaves what it left before
@@ -93,11 +95,12 @@ pub record IsTight (k : DiskKnown) (past : List Command) (history : List Entry) 
   pub is_end : k.told → IsEndOf (past ++ accepted_commands history) end
   pub full : IsFull end (count_after past history + 1) most_body
 
--- A journal that was opened: the commands that it held, each accepted in its turn. Where the disk stood for so many
--- commands and a host, they are those.
+-- A journal that was opened: the commands that it held, each accepted in its turn. The disk read as a journal of these
+-- commands; where it stood for so many commands and a host, they are those.
 pub record Opening (k : DiskKnown) : Type 0 where
   pub past : List Command
   pub accepted : AreAccepted empty_host past
+  pub read : k.told → StandsFor k.read (length past) (opening past)
   pub stood : k.told → (n : ℕ) (g : HostImage) → StandsFor k.read n g → (length past ≡ n) × (opening past ≡ g)
 
 -- why a disk holds no journal that a host can be made of

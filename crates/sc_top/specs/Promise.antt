@@ -32,22 +32,22 @@ use Rattle.sc_words.specs.declared.asked.TheConstants.{RUN_BUDGET}
 
 -- How a run ended, and what the disk holds then. It came to its end, and no session is ready, or one is and the steps
 -- are used up; or the disk failed, and may have left the next command in doubt; or there is no room for the next
--- command, or with workers for some command.
+-- command, or with workers for some command. It ends otherwise than by the disk only where no call of the disk failed.
 pub data Ends (k : DiskKnown) (past : List Command) (s : Script) (workers budget : ℕ)
     (history : List Entry) : End → Type 0 where
-  quiet : IsWholeHistoryOf past s workers budget history → ready (host_after past history) ≡ None
+  quiet : IsWholeHistoryOf past s workers budget history → ready (host_after past history) ≡ None → k.fine
       → (k.told → IsStored k (count_after past history) (host_after past history))
       → Ends k past s workers budget history end.Quiet
-  spent : IsWholeHistoryOf past s workers budget history → ready (host_after past history) ≢ None
+  spent : IsWholeHistoryOf past s workers budget history → ready (host_after past history) ≢ None → k.fine
       → (k.told → IsStored k (count_after past history) (host_after past history))
       → Ends k past s workers budget history end.Budget
   failed : IsHistoryOf past s workers budget history → k.failed → (k.told → IsDoubtful k past s workers budget history)
       → Ends k past s workers budget history end.Disk
   full : (e : Entry) → IsHistoryOf past s workers budget history → ComesNext past s workers budget history e
-      → HasNoRoomFor k past history e
+      → HasNoRoomFor k past history e → k.fine
       → (k.told → IsStored k (count_after past history) (host_after past history))
       → Ends k past s workers budget history end.Full
-  tight : workers ≢ 0 → IsHistoryOf past s workers budget history → IsTight k past history
+  tight : workers ≢ 0 → IsHistoryOf past s workers budget history → IsTight k past history → k.fine
       → (k.told → IsStored k (count_after past history) (host_after past history))
       → Ends k past s workers budget history end.Full
 

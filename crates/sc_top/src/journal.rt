@@ -24,8 +24,7 @@ use std::thread::Threads;
 
 /// Makes a journal.
 pub(crate) fn init<D: Disk>(disk: &mut D) -> Saying
-    ensures { Creates (disk_known D.tells D.reads D.may_leave D.faults disk.old disk.new)
-        (status_of result) (text_of result) }
+    ensures { Creates (disk_known D.law disk.old disk.new) (status_of result) (text_of result) }
 {
     match create(disk) {
         Ok(()) => Saying::Created,
@@ -36,9 +35,8 @@ pub(crate) fn init<D: Disk>(disk: &mut D) -> Saying
 
 /// Opens a journal, and tells the host that it holds.
 pub(crate) fn show<D: Disk>(alloc: Global, disk: &mut D) -> Result<Saying, NoMemory>
-    ensures ok { IfOk result (λ s. Shows (disk_known D.tells D.reads D.may_leave D.faults disk.old disk.new)
-        (status_of s) (text_of s)) }
-    ensures err { OnErr result (IsUnwritten (disk_known D.tells D.reads D.may_leave D.faults disk.old disk.new)) }
+    ensures ok { IfOk result (λ s. Shows (disk_known D.law disk.old disk.new) (status_of s) (text_of s)) }
+    ensures err { OnErr result (IsUnwritten (disk_known D.law disk.old disk.new)) }
 {
     match Book::open(alloc, &Compiled, disk) {
         Ok(book) => {
@@ -66,10 +64,9 @@ pub(crate) fn run<R: Threads + Wait + Sync, D: Disk, G: Gate>(
     gate: &G,
 ) -> Result<Saying, NoMemory>
     requires steps { HasNoStep script }
-    ensures ok { IfOk result (λ s. Runs (disk_known D.tells D.reads D.may_leave D.faults disk.old disk.new)
+    ensures ok { IfOk result (λ s. Runs (disk_known D.law disk.old disk.new)
         (account form) script steps.workers steps.budget (status_of s) (text_of s)) }
-    ensures err { OnErr result (LeftBy (disk_known D.tells D.reads D.may_leave D.faults disk.old disk.new) script
-        steps.workers steps.budget) }
+    ensures err { OnErr result (LeftBy (disk_known D.law disk.old disk.new) script steps.workers steps.budget) }
 {
     match Book::open(alloc, &Compiled, disk) {
         Ok(book) => {

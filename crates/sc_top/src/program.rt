@@ -61,18 +61,18 @@ pub fn top<R: Threads + Wait + Sync, S: Source, K: Sink, D: Disk, G: Gate>(
         → (status : Status) × (text : List ℕ)
         × (result ≡ code status) × Says (asked (map string_bytes words.now))
         (known (S.left source.old) (Rose (S.faults source.old) (S.faults source.new))
-        (disk_known D.tells D.reads D.may_leave D.faults disk.old disk.new)) status text
+        (disk_known D.law disk.old disk.new)) status text
         × Appends (K.taken sink.old) (K.taken sink.new) text }
     ensures cut { result ≡ code Status.WriteFault → (text : List ℕ)
         × Output (asked (map string_bytes words.now))
         (known (S.left source.old) (Rose (S.faults source.old) (S.faults source.new))
-        (disk_known D.tells D.reads D.may_leave D.faults disk.old disk.new)) text
+        (disk_known D.law disk.old disk.new)) text
         × AppendsPart (K.taken sink.old) (K.taken sink.new) text }
     ensures write { result ≡ code Status.WriteFault → Rose (K.faults sink.old) (K.faults sink.new) }
     ensures none { result ≡ code Status.OutOfMemory → Keeps (K.taken sink.old) (K.taken sink.new) }
     ensures left { result ≡ code Status.OutOfMemory → Leaves (asked (map string_bytes words.now))
         (known (S.left source.old) (Rose (S.faults source.old) (S.faults source.new))
-        (disk_known D.tells D.reads D.may_leave D.faults disk.old disk.new)) }
+        (disk_known D.law disk.old disk.new)) }
     ensures few { ConsumesUpTo (most_read (asked (map string_bytes words.now))) (S.left source.old)
         (S.left source.new) }
     ensures untouched { uses_journal (asked (map string_bytes words.now)) ≡ false → disk.new ≡ disk.old }
@@ -94,10 +94,10 @@ fn answer<R: Threads + Wait + Sync, S: Source, D: Disk, G: Gate>(
 ) -> Result<Saying, NoMemory>
     ensures says { IfOk result (λ s. Says (asked (map string_bytes words.now))
         (known (S.left source.old) (Rose (S.faults source.old) (S.faults source.new))
-        (disk_known D.tells D.reads D.may_leave D.faults disk.old disk.new)) (status_of s) (text_of s)) }
+        (disk_known D.law disk.old disk.new)) (status_of s) (text_of s)) }
     ensures left { OnErr result (Leaves (asked (map string_bytes words.now))
         (known (S.left source.old) (Rose (S.faults source.old) (S.faults source.new))
-        (disk_known D.tells D.reads D.may_leave D.faults disk.old disk.new))) }
+        (disk_known D.law disk.old disk.new))) }
     ensures few { ConsumesUpTo (most_read (asked (map string_bytes words.now))) (S.left source.old)
         (S.left source.new) }
     ensures untouched { uses_journal (asked (map string_bytes words.now)) ≡ false → disk.new ≡ disk.old }
@@ -119,10 +119,10 @@ fn saying_of<R: Threads + Wait + Sync, S: Source, D: Disk, G: Gate>(
 ) -> Result<Saying, NoMemory>
     ensures says { IfOk result (λ s. Says asked
         (known (S.left source.old) (Rose (S.faults source.old) (S.faults source.new))
-        (disk_known D.tells D.reads D.may_leave D.faults disk.old disk.new)) (status_of s) (text_of s)) }
+        (disk_known D.law disk.old disk.new)) (status_of s) (text_of s)) }
     ensures left { OnErr result (Leaves asked
         (known (S.left source.old) (Rose (S.faults source.old) (S.faults source.new))
-        (disk_known D.tells D.reads D.may_leave D.faults disk.old disk.new))) }
+        (disk_known D.law disk.old disk.new))) }
     ensures few { ConsumesUpTo (most_read asked) (S.left source.old) (S.left source.new) }
     ensures untouched { uses_journal asked ≡ false → disk.new ≡ disk.old }
 {
@@ -149,10 +149,10 @@ fn run<R: Threads + Wait + Sync, S: Source, D: Disk, G: Gate>(
 ) -> Result<Saying, NoMemory>
     ensures says { IfOk result (λ s. Says (Some (Asked.Run steps.workers steps.budget))
         (known (S.left source.old) (Rose (S.faults source.old) (S.faults source.new))
-        (disk_known D.tells D.reads D.may_leave D.faults disk.old disk.new)) (status_of s) (text_of s)) }
+        (disk_known D.law disk.old disk.new)) (status_of s) (text_of s)) }
     ensures left { OnErr result (Leaves (Some (Asked.Run steps.workers steps.budget))
         (known (S.left source.old) (Rose (S.faults source.old) (S.faults source.new))
-        (disk_known D.tells D.reads D.may_leave D.faults disk.old disk.new))) }
+        (disk_known D.law disk.old disk.new))) }
     ensures few { ConsumesUpTo (most_read (Some (Asked.Run steps.workers steps.budget))) (S.left source.old)
         (S.left source.new) }
 {
@@ -172,9 +172,9 @@ fn run_text<R: Threads + Wait + Sync, D: Disk, G: Gate>(
     disk: &mut D,
     gate: &G,
 ) -> Result<Saying, NoMemory>
-    ensures ok { IfOk result (λ s. SaysOfScript (disk_known D.tells D.reads D.may_leave D.faults disk.old disk.new)
+    ensures ok { IfOk result (λ s. SaysOfScript (disk_known D.law disk.old disk.new)
         steps.workers steps.budget (script_of text.now) (status_of s) (text_of s)) }
-    ensures err { OnErr result (LeavesScript (disk_known D.tells D.reads D.may_leave D.faults disk.old disk.new)
+    ensures err { OnErr result (LeavesScript (disk_known D.law disk.old disk.new)
         steps.workers steps.budget (script_of text.now)) }
 {
     match read_script(alloc, text) {
@@ -193,10 +193,9 @@ fn draw<R: Threads + Wait + Sync, D: Disk, G: Gate>(
     disk: &mut D,
     gate: &G,
 ) -> Result<Saying, NoMemory>
-    ensures ok { IfOk result (λ s. Runs (disk_known D.tells D.reads D.may_leave D.faults disk.old disk.new)
+    ensures ok { IfOk result (λ s. Runs (disk_known D.law disk.old disk.new)
         (λ opened. summary number size) (generated number size) 0 RUN_BUDGET (status_of s) (text_of s)) }
-    ensures err { OnErr result (LeftBy (disk_known D.tells D.reads D.may_leave D.faults disk.old disk.new)
-        (generated number size) 0 RUN_BUDGET) }
+    ensures err { OnErr result (LeftBy (disk_known D.law disk.old disk.new) (generated number size) 0 RUN_BUDGET) }
 {
     let form = Form::Summary { number, size };
     let steps = Steps {

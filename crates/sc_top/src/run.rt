@@ -37,12 +37,11 @@ impl<'e, E: Engine, D: Disk> Run<'e, E, D> {
     /// Makes a command.
     #[inline(always)]
     fn make(&mut self, alloc: Global, who: Who, command: Command) -> Result<(), CallFault>
-        ensures ok { OnOk result (Makes (run_of self.old.book self.old.left)
+        ensures ok { OnOk result (Makes D.law (run_of self.old.book self.old.left)
             (run_of self.new.book self.new.left) who command) }
-        ensures err { IfErr result (λ fault. IsUnmade D.tells D.may_leave D.may_have_left D.moment D.faults fault
+        ensures err { IfErr result (λ fault. IsUnmade D.law fault
             (run_of self.old.book self.old.left) (run_of self.new.book self.new.left) command) }
-        ensures goes_on { GoesOn D.tells D.may_leave D.may_have_left D.moment D.faults D.identity self.old.book
-            self.new.book }
+        ensures goes_on { GoesOn D.law self.old.book self.new.book }
     {
         self.book.call(alloc, who, command)?;
         Ok(())
@@ -51,13 +50,11 @@ impl<'e, E: Engine, D: Disk> Run<'e, E, D> {
     /// Lets the ready session that was started first step, until none is ready or no step is left.
     fn step_all(&mut self, alloc: Global) -> Result<(), CallFault>
         ensures goes { OnOk result ((cs : List Made)
-            → Goes (run_of self.old.book self.old.left) (run_of self.new.book self.new.left) cs cs) }
+            → Goes D.law (run_of self.old.book self.old.left) (run_of self.new.book self.new.left) cs cs) }
         ensures stepped { OnOk result (HasStepped (run_of self.new.book self.new.left)) }
-        ensures stops { IfErr result (λ fault. (cs : List Made)
-            → Stops D.tells D.may_leave D.may_have_left D.moment D.faults fault
+        ensures stops { IfErr result (λ fault. (cs : List Made) → Stops D.law fault
             (run_of self.old.book self.old.left) (run_of self.new.book self.new.left) cs) }
-        ensures goes_on { GoesOn D.tells D.may_leave D.may_have_left D.moment D.faults D.identity self.old.book
-            self.new.book }
+        ensures goes_on { GoesOn D.law self.old.book self.new.book }
     {
         while self.left > 0 {
             let Some(session) = self.book.host().ready_session() else {
@@ -79,15 +76,13 @@ impl<'e, E: Engine, D: Disk> Run<'e, E, D> {
     ) -> Result<(), CallFault>
         requires stepped { HasStepped (run_of self.old.book self.old.left) }
         ensures goes { OnOk result ((cs : List Made)
-            → Goes (run_of self.old.book self.old.left) (run_of self.new.book self.new.left)
+            → Goes D.law (run_of self.old.book self.old.left) (run_of self.new.book self.new.left)
             (of_client client commands ++ cs) cs) }
         ensures stepped { OnOk result (HasStepped (run_of self.new.book self.new.left)) }
-        ensures stops { IfErr result (λ fault. (cs : List Made)
-            → Stops D.tells D.may_leave D.may_have_left D.moment D.faults fault
+        ensures stops { IfErr result (λ fault. (cs : List Made) → Stops D.law fault
             (run_of self.old.book self.old.left) (run_of self.new.book self.new.left)
             (of_client client commands ++ cs)) }
-        ensures goes_on { GoesOn D.tells D.may_leave D.may_have_left D.moment D.faults D.identity self.old.book
-            self.new.book }
+        ensures goes_on { GoesOn D.law self.old.book self.new.book }
     {
         let mut left = Remaining::new(commands);
         while let Some(command) = left.take_first() {
@@ -105,14 +100,12 @@ impl<'e, E: Engine, D: Disk> Run<'e, E, D> {
     ) -> Result<(), CallFault>
         requires stepped { HasStepped (run_of self.old.book self.old.left) }
         ensures goes { OnOk result ((cs : List Made)
-            → Goes (run_of self.old.book self.old.left) (run_of self.new.book self.new.left)
+            → Goes D.law (run_of self.old.book self.old.left) (run_of self.new.book self.new.left)
             (of_clients 1 clients ++ cs) cs) }
         ensures stepped { OnOk result (HasStepped (run_of self.new.book self.new.left)) }
-        ensures stops { IfErr result (λ fault. (cs : List Made)
-            → Stops D.tells D.may_leave D.may_have_left D.moment D.faults fault
+        ensures stops { IfErr result (λ fault. (cs : List Made) → Stops D.law fault
             (run_of self.old.book self.old.left) (run_of self.new.book self.new.left) (of_clients 1 clients ++ cs)) }
-        ensures goes_on { GoesOn D.tells D.may_leave D.may_have_left D.moment D.faults D.identity self.old.book
-            self.new.book }
+        ensures goes_on { GoesOn D.law self.old.book self.new.book }
     {
         let mut client = 0u32;
         for commands in clients.into_vec() {
@@ -124,13 +117,12 @@ impl<'e, E: Engine, D: Disk> Run<'e, E, D> {
 
     /// Makes the commands of a script: those of the set-up, and then those of one client after another.
     fn make_script(&mut self, alloc: Global, script: Script) -> Result<(), CallFault>
-        ensures goes { OnOk result (Goes (run_of self.old.book self.old.left) (run_of self.new.book self.new.left)
+        ensures goes { OnOk result (Goes D.law (run_of self.old.book self.old.left) (run_of self.new.book self.new.left)
             (in_turn script) []) }
         ensures stepped { OnOk result (HasStepped (run_of self.new.book self.new.left)) }
-        ensures stops { IfErr result (λ fault. Stops D.tells D.may_leave D.may_have_left D.moment D.faults fault
+        ensures stops { IfErr result (λ fault. Stops D.law fault
             (run_of self.old.book self.old.left) (run_of self.new.book self.new.left) (in_turn script)) }
-        ensures goes_on { GoesOn D.tells D.may_leave D.may_have_left D.moment D.faults D.identity self.old.book
-            self.new.book }
+        ensures goes_on { GoesOn D.law self.old.book self.new.book }
     {
         self.step_all(alloc)?;
         self.make_all(alloc, 0, script.setup)?;
@@ -152,7 +144,7 @@ fn run_alone<'e, E: Engine, D: Disk>(
     script: Script,
     budget: u64,
 ) -> Ended<E, D>
-    ensures { HasEnded D.tells D.may_leave D.may_have_left D.moment D.faults D.identity book.entry script 0 budget
+    ensures { HasEnded D.law book.entry script 0 budget
         result.closed.host.image result.closed.opened result.closed.history.entries result.closed.disk result.fault }
 {
     let mut run = Run { book, left: budget };
@@ -175,7 +167,7 @@ fn run_in_threads<'e, R: Threads + Wait + Sync, E: Engine, D: Disk, G: Gate>(
     requires no_step { HasNoStep script }
     requires opened { book.history ≡ [] }
     requires some { steps.workers ≢ 0 }
-    ensures { HasEnded D.tells D.may_leave D.may_have_left D.moment D.faults D.identity book.entry script
+    ensures { HasEnded D.law book.entry script
         steps.workers steps.budget result.closed.host.image result.closed.opened result.closed.history.entries
         result.closed.disk result.fault }
 {
@@ -207,7 +199,7 @@ pub(crate) fn run_script<'e, R: Threads + Wait + Sync, E: Engine, D: Disk, G: Ga
 ) -> Ended<E, D>
     requires no_step { HasNoStep script }
     requires opened { book.history ≡ [] }
-    ensures { HasEnded D.tells D.may_leave D.may_have_left D.moment D.faults D.identity book.entry script
+    ensures { HasEnded D.law book.entry script
         steps.workers steps.budget result.closed.host.image result.closed.opened result.closed.history.entries
         result.closed.disk result.fault }
 {

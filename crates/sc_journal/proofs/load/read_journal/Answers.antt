@@ -28,10 +28,11 @@ loop-buffer-preserved g c =
       short = omega (arith, i.short, ap length new, length-append c.loop-buffer.text.items (take count into), long, asked, old_long);
       stays = e.stays ∙ i.stays;
       text = λ told.
-          more (g.D.Disk.reads c.args.disk.now).journal c.loop-buffer.text.items (take count into) _ count (i.text told)
+          more (g.D.Disk.law.reads c.args.disk.now).journal c.loop-buffer.text.items (take count into) _ count (i.text told)
           (e.bytes told ∙ (λ k. take (asked k) (drop (at k) (i.stays k).journal))) long new;
       images = λ d left. i.images d (e.images d left);
-      passes = passes-call g.D.Disk.moment g.D.Disk.may_have_left c.args.disk.now c.loop-buffer.disk c.read_at.new.self _ _ i.passes e.time (λ d left. i.images d (e.images d left));
+      passes = passes-call g.D.Disk.law c.args.disk.now c.loop-buffer.disk c.read_at.new.self _ i.passes e.time (λ d left. i.images d (e.images d left));
       later = omega (arith, i.later, e.cause.later);
+      fine = c.in_ok-count.ensures.fine ∙ i.fine;
       same = e.same ∙ i.same;
     }

@@ -15,21 +15,20 @@ returns-in_err-commit-clause-steps g c =
     let host = c.args.book.now.host in
     let place = c.args.ticket.place in
     let why = c.in_err-commit.ensures in
-    let distinct = distinct_in g.D.Disk.tells g.D.Disk.may_leave g.D.Disk.may_have_left g.D.Disk.moment g.D.Disk.faults
-    g.D.Disk.identity c.args.book.now c.host.ensures.book in
+    let distinct = distinct_in g.D.Disk.law c.args.book.now c.host.ensures.book in
     let stepped = place_stepped host place distinct
     (ready_place _ _ _ _ _ c.host.ensures.host c.place.ensures (search rules) c.is_ready_at.ensures) in
-    rw (p.1, p.2) (step_failed g.D.Disk.tells g.D.Disk.may_leave g.D.Disk.may_have_left g.D.Disk.moment g.D.Disk.faults
-    g.D.Disk.identity (step_at host place) c.in_err-commit.field-0.0 c.args.book.now c.commit.new.self stepped why.err why.doubts
-    (λ e. why.disk (ap Err e)) (λ e. why.full (ap Err e)) (λ e. why.fits (ap Err e)) why.grows)
+    rw (p.1, p.2) (step_failed g.D.Disk.law (step_at host place) c.in_err-commit.field-0.0 c.args.book.now c.commit.new.self stepped why.err why.doubts
+    (λ e. why.disk (ap Err e)) (λ e. why.full (ap Err e)) (λ e. why.fits (ap Err e)) why.grows
+    (λ other. why.fine (λ e. other (cc))))
 
 pub returns-clause-steps : goal.returns-clause-steps
 returns-clause-steps g c =
     let host = c.args.book.now.host in
     let place = c.args.ticket.place in
-    let distinct = distinct_in g.D.Disk.tells g.D.Disk.may_leave g.D.Disk.may_have_left g.D.Disk.moment g.D.Disk.faults
-    g.D.Disk.identity c.args.book.now c.host.ensures.book in
+    let distinct = distinct_in g.D.Disk.law c.args.book.now c.host.ensures.book in
     let stepped = place_stepped host place distinct
     (ready_place _ _ _ _ _ c.host.ensures.host c.place.ensures (search rules) c.is_ready_at.ensures) in
-    step_added g.D.Disk.tells g.D.Disk.may_leave g.D.Disk.may_have_left g.D.Disk.moment g.D.Disk.faults g.D.Disk.identity
+    step_added g.D.Disk.law
     (step_at host place) c.args.book.now c.commit.new.self _ stepped c.in_ok-commit.ensures.ok
+    (c.in_ok-commit.ensures.fine (λ e. cc))

@@ -9,8 +9,7 @@ returns-clause-steps g c =
     let name = c.in_ok-session.session in
     let at : ready c.host.result.now.image ≡ Some name = search rules in
     let is_ready : ready c.args.book.now.host ≡ Some name = ap ready (sym c.host.ensures.host) ∙ at in
-    let distinct = distinct_in g.D.Disk.tells g.D.Disk.may_leave g.D.Disk.may_have_left g.D.Disk.moment g.D.Disk.faults
-    g.D.Disk.identity c.args.book.now c.host.ensures.book in
-    step_added g.D.Disk.tells g.D.Disk.may_leave g.D.Disk.may_have_left g.D.Disk.moment g.D.Disk.faults g.D.Disk.identity
+    let distinct = distinct_in g.D.Disk.law c.args.book.now c.host.ensures.book in
+    step_added g.D.Disk.law
     (Step name) c.args.book.now c.call.new.self _ (first_stepped c.args.book.now.host name (Step name) distinct is_ready refl)
-    c.in_ok-call.ensures.ok
+    c.in_ok-call.ensures.ok (c.in_ok-call.ensures.fine (λ e. cc))

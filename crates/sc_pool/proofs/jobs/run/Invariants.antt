@@ -3,4 +3,4 @@ use Rattle.sc_pool.specs.Books.{seen_of}
 use Rattle.sc_pool.proofs.jobs.run.Given as goal
 
 abbrev pub ghosts-run_planned : goal.ghosts-run_planned
-ghosts-run_planned g a = record { plan = planned a.scripts a.budget ((seen_of g.D.Disk.tells g.D.Disk.may_leave g.D.Disk.may_have_left g.D.Disk.moment g.D.Disk.faults g.D.Disk.identity) a.book) }
+ghosts-run_planned g a = record { plan = planned a.scripts a.budget ((seen_of g.D.Disk.law) a.book) }

@@ -9,7 +9,7 @@ returns-then-len-ge-MOST_CLIENTS g c = ran_nothing _ _ _ c.requires.within
 pub run-requires-clause-within : goal.run-requires-clause-within
 run-requires-clause-within g c =
     let m = c.in-Ok.ensures in
-    let same = steps_after c.args.script.setup [] ((seen_of g.D.Disk.tells g.D.Disk.may_leave g.D.Disk.may_have_left g.D.Disk.moment g.D.Disk.faults g.D.Disk.identity) c.args.book) ((seen_of g.D.Disk.tells g.D.Disk.may_leave g.D.Disk.may_have_left g.D.Disk.moment g.D.Disk.faults g.D.Disk.identity) c.set_up.new.book) m.fresh
+    let same = steps_after c.args.script.setup [] ((seen_of g.D.Disk.law) c.args.book) ((seen_of g.D.Disk.law) c.set_up.new.book) m.fresh
     c.requires.no_step.setup m.whole m.makes.entries in
     omega (arith, c.requires.within, same)
 

@@ -8,13 +8,13 @@ use Rattle.sc_pool.proofs.set_up.set_up.Goals as goal
 
 pub loop-command-init : goal.loop-command-init
 loop-command-init g c =
-    let seen = (seen_of g.D.Disk.tells g.D.Disk.may_leave g.D.Disk.may_have_left g.D.Disk.moment g.D.Disk.faults g.D.Disk.identity) c.args.book.now in
+    let seen = (seen_of g.D.Disk.law) c.args.book.now in
     let all : c.args.commands ≡ c.new-left.result = search rules in
     subst (λ (xs : List Command). MakesPart c.args.commands xs seen seen) all (nothing_set_up c.args.commands seen)
 
 pub loop-command-preserved : goal.loop-command-preserved
 loop-command-preserved g c =
-    let seen = (seen_of g.D.Disk.tells g.D.Disk.may_leave g.D.Disk.may_have_left g.D.Disk.moment g.D.Disk.faults g.D.Disk.identity) in
+    let seen = (seen_of g.D.Disk.law) in
     let first = c.in-Some.command in
     let rest = c.take_first.new.self in
     let here : c.loop-command.left ≡ first ∷ rest = c.in-Some.ensures in
@@ -26,7 +26,7 @@ loop-command-preserved g c =
 pub returns-in_err-answer : goal.returns-in_err-answer
 returns-in_err-answer g c =
     let p = err_from_is_err_and c.from_residual.result c.from_residual.ensures.1 in
-    let seen = (seen_of g.D.Disk.tells g.D.Disk.may_leave g.D.Disk.may_have_left g.D.Disk.moment g.D.Disk.faults g.D.Disk.identity) in
+    let seen = (seen_of g.D.Disk.law) in
     let first = c.in-Some.command in
     let rest = c.take_first.new.self in
     let here : c.loop-command.left ≡ first ∷ rest = c.in-Some.ensures in

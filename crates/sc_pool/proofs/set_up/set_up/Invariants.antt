@@ -5,7 +5,7 @@ use Rattle.sc_pool.proofs.set_up.set_up.Given as goal
 
 abbrev pub invariant-loop-command : goal.invariant-loop-command
 invariant-loop-command g l =
-    MakesPart l.fn.commands l.left ((seen_of g.D.Disk.tells g.D.Disk.may_leave g.D.Disk.may_have_left g.D.Disk.moment g.D.Disk.faults g.D.Disk.identity) l.fn.book) ((seen_of g.D.Disk.tells g.D.Disk.may_leave g.D.Disk.may_have_left g.D.Disk.moment g.D.Disk.faults g.D.Disk.identity) l.book)
+    MakesPart l.fn.commands l.left ((seen_of g.D.Disk.law) l.fn.book) ((seen_of g.D.Disk.law) l.book)
 
 abbrev pub decreases-loop-command : goal.decreases-loop-command
 decreases-loop-command g l = length l.left

@@ -7,8 +7,7 @@ pub returns-in-Ok : goal.returns-in-Ok
 returns-in-Ok g c =
     let laws = g.met.D.Disk g.world.𝓛 g.world.𝓜 g.world.𝓡 ((λ s x. x), (λ x. x), (λ x. x), λ x. x) in
     let done = c.in-Ok.ensures in
-    created (λ told. done.free told) (λ told. made_of g.D.Disk.tells g.D.Disk.reads g.D.Disk.may_leave
-    g.D.Disk.may_have_left g.D.Disk.moment g.D.Disk.faults g.D.Disk.identity laws.stands c.args.disk.now c.create.new.disk
+    created (λ told. done.free told) (λ told. made_of g.D.Disk.law laws.stands c.args.disk.now c.create.new.disk
     (done.made told))
 
 pub returns-in-Err-Exists : goal.returns-in-Err-Exists

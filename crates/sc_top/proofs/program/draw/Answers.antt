@@ -15,13 +15,13 @@ run-requires-clause-steps g c = λ κs within.
 
 pub returns-in-Ok-clause-ok : goal.returns-in-Ok-clause-ok
 returns-in-Ok-clause-ok g c =
-    let k = disk_known g.D.Disk.tells g.D.Disk.reads g.D.Disk.may_leave g.D.Disk.faults c.args.disk.now c.run.new.disk in
+    let k = disk_known g.D.Disk.law c.args.disk.now c.run.new.disk in
     subst (λ (x : Script). IfOk c.run.result (λ s. Runs k (λ opened. summary c.args.number c.args.size) x 0 RUN_BUDGET
     (status_of s) (text_of s))) c.in-Ok.ensures c.run.ensures.ok
 
 pub returns-in-Ok-clause-err : goal.returns-in-Ok-clause-err
 returns-in-Ok-clause-err g c =
-    let k = disk_known g.D.Disk.tells g.D.Disk.reads g.D.Disk.may_leave g.D.Disk.faults c.args.disk.now c.run.new.disk in
+    let k = disk_known g.D.Disk.law c.args.disk.now c.run.new.disk in
     subst (λ (x : Script). OnErr c.run.result (LeftBy k x 0 RUN_BUDGET)) c.in-Ok.ensures c.run.ensures.err
 
 pub returns-in-Err-clause-err : goal.returns-in-Err-clause-err

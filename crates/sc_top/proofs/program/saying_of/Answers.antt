@@ -20,7 +20,7 @@ returns-in-Some-Show-clause-says g c =
     let is : c.args.asked ≡ Some Show = search rules in
     let faults = g.S.Source.faults c.args.source.now in
     let k = known (g.S.Source.left c.args.source.now) (Rose faults faults)
-    (disk_known g.D.Disk.tells g.D.Disk.reads g.D.Disk.may_leave g.D.Disk.faults c.args.disk.now c.show.new.disk) in
+    (disk_known g.D.Disk.law c.args.disk.now c.show.new.disk) in
     subst (λ a. IfOk c.show.result (λ s. Says a k (status_of s) (text_of s))) (sym is) (show_says k c.show.result c.show.ensures.ok)
 
 pub returns-in-Some-Check-clause-says : goal.returns-in-Some-Check-clause-says
@@ -28,7 +28,7 @@ returns-in-Some-Check-clause-says g c =
     let is : c.args.asked ≡ Some Check = search rules in
     let k = known (g.S.Source.left c.args.source.now)
     (Rose (g.S.Source.faults c.args.source.now) (g.S.Source.faults c.check.new.source))
-    (disk_known g.D.Disk.tells g.D.Disk.reads g.D.Disk.may_leave g.D.Disk.faults c.args.disk.now c.args.disk.now) in
+    (disk_known g.D.Disk.law c.args.disk.now c.args.disk.now) in
     subst (λ a. IfOk c.check.result (λ s. Says a k (status_of s) (text_of s))) (sym is)
     (check_says k c.check.result c.check.ensures.says)
 
@@ -39,7 +39,7 @@ returns-in-Some-Gen-clause-says g c =
     let is : c.args.asked ≡ Some (Gen number size) = search rules in
     let faults = g.S.Source.faults c.args.source.now in
     let k = known (g.S.Source.left c.args.source.now) (Rose faults faults)
-    (disk_known g.D.Disk.tells g.D.Disk.reads g.D.Disk.may_leave g.D.Disk.faults c.args.disk.now c.draw.new.disk) in
+    (disk_known g.D.Disk.law c.args.disk.now c.draw.new.disk) in
     subst (λ a. IfOk c.draw.result (λ s. Says a k (status_of s) (text_of s))) (sym is)
     (drawn_says number size k c.draw.result c.draw.ensures.ok)
 
@@ -50,5 +50,5 @@ returns-in-Some-Gen-clause-left g c =
     let is : c.args.asked ≡ Some (Gen number size) = search rules in
     let faults = g.S.Source.faults c.args.source.now in
     let k = known (g.S.Source.left c.args.source.now) (Rose faults faults)
-    (disk_known g.D.Disk.tells g.D.Disk.reads g.D.Disk.may_leave g.D.Disk.faults c.args.disk.now c.draw.new.disk) in
+    (disk_known g.D.Disk.law c.args.disk.now c.draw.new.disk) in
     subst (λ a. OnErr c.draw.result (Leaves a k)) (sym is) (drawn_leaves number size k c.draw.result c.draw.ensures.err)

@@ -12,7 +12,7 @@ returns g c =
       goes_on = c.make_script.ensures.goes_on;
       how = (
         c.make_script.new.self.left,
-        ended_by g.D.Disk.tells g.D.Disk.may_leave g.D.Disk.may_have_left g.D.Disk.moment g.D.Disk.faults
+        ended_by g.D.Disk.law
             (run_of c.args.book c.args.budget) new (in_turn c.args.script) c.make_script.result c.err-fault.result
             c.err-fault.ensures.value c.make_script.ensures.goes c.make_script.ensures.stepped c.make_script.ensures.stops,
       );

@@ -13,10 +13,8 @@ returns g c =
     let ran = c.run_jobs-book.ensures in
     record {
       book = new;
-      goes_on = on_in_threads g.D.Disk.tells g.D.Disk.may_leave g.D.Disk.may_have_left g.D.Disk.moment g.D.Disk.faults
-          g.D.Disk.identity old new c.args.script c.args.steps.budget fault ran;
-      how = how_in_threads g.D.Disk.tells g.D.Disk.may_leave g.D.Disk.may_have_left g.D.Disk.moment g.D.Disk.faults
-          g.D.Disk.identity old new c.args.script c.args.steps.budget fault ran c.args.steps.workers c.requires.some;
+      goes_on = on_in_threads g.D.Disk.law old new c.args.script c.args.steps.budget fault ran;
+      how = how_in_threads g.D.Disk.law old new c.args.script c.args.steps.budget fault ran c.args.steps.workers c.requires.some;
       host = sym c.finish.ensures.host;
       opened = sym c.finish.ensures.opened;
       history = sym c.finish.ensures.history;

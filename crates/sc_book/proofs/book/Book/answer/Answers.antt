@@ -19,29 +19,23 @@ use Rattle.sc_book.proofs.book.Book.answer.Goals.{then-is_accepted+in_default, e
 pub prepare-requires-clause-room : goal.prepare-requires-clause-room
 prepare-requires-clause-room g c =
     let laws = g.met.D.Disk g.world.𝓛 g.world.𝓜 g.world.𝓡 ((λ s x. x), (λ x. x), (λ x. x), λ x. x) in
-    let T = g.D.Disk.tells in
-    let L = g.D.Disk.may_leave in
-    let S = g.D.Disk.may_have_left in
-    let M = g.D.Disk.moment in
+    let law = g.D.Disk.law in
     let i = c.self.inside in
     let b : BookOf g.row.D.Denot = book_of i.host i.opened i.start i.log i.claims i.journal in
     let none : i.journal.doubt ≡ None = ap (λ (x : BookOf g.row.D.Denot). x.journal.doubt) c.self.view_is ∙ c.requires.settled in
-    let count = counted T L S M laws.only_now c.self.invariant.past b c.self.invariant.is in
+    let count = counted law laws.only_now c.self.invariant.past b c.self.invariant.is in
     omega (arith, count, c.next_number-next.ensures.value, c.next_number-next.ensures.limit)
 
 pub returns-in_err-prepared-clause-any_moment : goal.returns-in_err-prepared-clause-any_moment
 returns-in_err-prepared-clause-any_moment g c = λ told past is.
     let laws = g.met.D.Disk g.world.𝓛 g.world.𝓜 g.world.𝓡 ((λ s x. x), (λ x. x), (λ x. x), λ x. x) in
-    let T = g.D.Disk.tells in
-    let L = g.D.Disk.may_leave in
-    let S = g.D.Disk.may_have_left in
-    let M = g.D.Disk.moment in
+    let law = g.D.Disk.law in
     let i = c.self.inside in
     let b : BookOf g.row.D.Denot = book_of i.host i.opened i.start i.log i.claims i.journal in
     let none : i.journal.doubt ≡ None = ap (λ (x : BookOf g.row.D.Denot). x.journal.doubt) c.self.view_is ∙ c.requires.settled in
-    let now = subst (IsBook T L S M past) (sym c.self.view_is) is in
-    subst (λ (x : BookOf g.row.D.Denot). LeavesOnly M S x.journal.disk i.journal.disk (IsAllOrMore past x c.args.command)) c.self.view_is
-    (during_none T L S M laws.only_now past b now told none c.args.command)
+    let now = subst (IsBook law past) (sym c.self.view_is) is in
+    subst (λ (x : BookOf g.row.D.Denot). LeavesOnly law x.journal.disk i.journal.disk (IsAllOrMore past x c.args.command)) c.self.view_is
+    (during_none law laws.only_now past b now told none c.args.command)
 
 pub confirm-requires : goal.confirm-requires
 confirm-requires g c = record {
@@ -54,28 +48,22 @@ confirm-requires g c = record {
 pub returns-in_err-receipt-clause-any_moment : goal.returns-in_err-receipt-clause-any_moment
 returns-in_err-receipt-clause-any_moment g c = λ told past is.
     let laws = g.met.D.Disk g.world.𝓛 g.world.𝓜 g.world.𝓡 ((λ s x. x), (λ x. x), (λ x. x), λ x. x) in
-    let T = g.D.Disk.tells in
-    let L = g.D.Disk.may_leave in
-    let S = g.D.Disk.may_have_left in
-    let M = g.D.Disk.moment in
+    let law = g.D.Disk.law in
     let i = c.self.inside in
     let b : BookOf g.row.D.Denot = book_of i.host i.opened i.start i.log i.claims i.journal in
     let none : i.journal.doubt ≡ None = ap (λ (x : BookOf g.row.D.Denot). x.journal.doubt) c.self.view_is ∙ c.requires.settled in
-    let now = subst (IsBook T L S M past) (sym c.self.view_is) is in
-    subst (λ (x : BookOf g.row.D.Denot). LeavesOnly M S x.journal.disk i.journal.disk (IsAllOrMore past x c.args.command)) c.self.view_is
-    (during_none T L S M laws.only_now past b now told none c.args.command)
+    let now = subst (IsBook law past) (sym c.self.view_is) is in
+    subst (λ (x : BookOf g.row.D.Denot). LeavesOnly law x.journal.disk i.journal.disk (IsAllOrMore past x c.args.command)) c.self.view_is
+    (during_none law laws.only_now past b now told none c.args.command)
 
 pub returns-in-Err-clause-kept : goal.returns-in-Err-clause-kept
 returns-in-Err-clause-kept g c = λ past is.
     let laws = g.met.D.Disk g.world.𝓛 g.world.𝓜 g.world.𝓡 ((λ s x. x), (λ x. x), (λ x. x), λ x. x) in
-    let T = g.D.Disk.tells in
-    let L = g.D.Disk.may_leave in
-    let S = g.D.Disk.may_have_left in
-    let M = g.D.Disk.moment in
+    let law = g.D.Disk.law in
     let i = c.self.inside in
     let b : BookOf g.row.D.Denot = book_of i.host i.opened i.start i.log i.claims i.journal in
     let none : i.journal.doubt ≡ None = ap (λ (x : BookOf g.row.D.Denot). x.journal.doubt) c.self.view_is ∙ c.requires.settled in
-    let now = subst (IsBook T L S M past) (sym c.self.view_is) is in
+    let now = subst (IsBook law past) (sym c.self.view_is) is in
     let p = c.in_ok-prepared.ensures.answer in
     let same = same_on i.log c.prepare.new.log c.confirm.new.log c.prepare.ensures.log c.in_ok-receipt.ensures.log in
     let accepted : is_accepted c.in_ok-prepared.prepared.reply ≡ true = sym c.is_accepted.ensures ∙ c.if-is_accepted.true in
@@ -83,7 +71,7 @@ returns-in-Err-clause-kept g c = λ past is.
     let body = subst (IsBodyOf c.args.command) (sym c.slice.ensures) (c.in_ok-receipt.ensures.body accepted) in
     let a = c.in-Err.ensures in
     let n = c.not_added.ensures in
-    not_stored T L S M laws.only_now past i.claims i.host c.prepare.new.host i.opened i.start i.log c.confirm.new.log c.not_added.new.log
+    not_stored law laws.only_now past i.claims i.host c.prepare.new.host i.opened i.start i.log c.confirm.new.log c.not_added.new.log
     i.journal c.append.new.self c.args.who c.args.command c.slice.result.now c.not_added.result now c.prepare.ensures.image same
     n.history n.moments n.doubts n.some (λ is. a.untouched (ap Err (n.full is))) a.not_added.1.0 a.not_added.1.1 a.elapsed
     (λ bodies k. a.kept first_head bodies k) (λ bodies k. a.any_moment first_head bodies k) body granted
@@ -92,21 +80,18 @@ pub invariant_of-self-in-Err : goal.invariant_of-self-in-Err
 invariant_of-self-in-Err g c = record {
   past = c.self.invariant.past;
   is = returns-in-Err-clause-kept g c c.self.invariant.past
-      (subst (IsBook g.D.Disk.tells g.D.Disk.may_leave g.D.Disk.may_have_left g.D.Disk.moment c.self.invariant.past) c.self.view_is
+      (subst (IsBook g.D.Disk.law c.self.invariant.past) c.self.view_is
       c.self.invariant.is);
 }
 
 pub returns-in-Err-clause-any_moment : goal.returns-in-Err-clause-any_moment
 returns-in-Err-clause-any_moment g c = λ told past is.
     let laws = g.met.D.Disk g.world.𝓛 g.world.𝓜 g.world.𝓡 ((λ s x. x), (λ x. x), (λ x. x), λ x. x) in
-    let T = g.D.Disk.tells in
-    let L = g.D.Disk.may_leave in
-    let S = g.D.Disk.may_have_left in
-    let M = g.D.Disk.moment in
+    let law = g.D.Disk.law in
     let i = c.self.inside in
     let b : BookOf g.row.D.Denot = book_of i.host i.opened i.start i.log i.claims i.journal in
     let none : i.journal.doubt ≡ None = ap (λ (x : BookOf g.row.D.Denot). x.journal.doubt) c.self.view_is ∙ c.requires.settled in
-    let now = subst (IsBook T L S M past) (sym c.self.view_is) is in
+    let now = subst (IsBook law past) (sym c.self.view_is) is in
     let p = c.in_ok-prepared.ensures.answer in
     let same = same_on i.log c.prepare.new.log c.confirm.new.log c.prepare.ensures.log c.in_ok-receipt.ensures.log in
     let accepted : is_accepted c.in_ok-prepared.prepared.reply ≡ true = sym c.is_accepted.ensures ∙ c.if-is_accepted.true in
@@ -114,21 +99,18 @@ returns-in-Err-clause-any_moment g c = λ told past is.
     let body = subst (IsBodyOf c.args.command) (sym c.slice.ensures) (c.in_ok-receipt.ensures.body accepted) in
     let a = c.in-Err.ensures in
     let n = c.not_added.ensures in
-    subst (λ (x : BookOf g.row.D.Denot). LeavesOnly M S x.journal.disk c.append.new.self.disk (IsAllOrMore past x c.args.command)) c.self.view_is
-    (during_store T L S M laws.only_now past b now told c.append.new.self.disk c.slice.result.now c.args.command body.spells granted
+    subst (λ (x : BookOf g.row.D.Denot). LeavesOnly law x.journal.disk c.append.new.self.disk (IsAllOrMore past x c.args.command)) c.self.view_is
+    (during_store law laws.only_now past b now told c.append.new.self.disk c.slice.result.now c.args.command body.spells granted
     (λ bodies k. a.any_moment first_head bodies k))
 
 pub returns-clause-kept : goal.returns-clause-kept
 returns-clause-kept g c = λ past is.
     let laws = g.met.D.Disk g.world.𝓛 g.world.𝓜 g.world.𝓡 ((λ s x. x), (λ x. x), (λ x. x), λ x. x) in
-    let T = g.D.Disk.tells in
-    let L = g.D.Disk.may_leave in
-    let S = g.D.Disk.may_have_left in
-    let M = g.D.Disk.moment in
+    let law = g.D.Disk.law in
     let i = c.self.inside in
     let b : BookOf g.row.D.Denot = book_of i.host i.opened i.start i.log i.claims i.journal in
     let none : i.journal.doubt ≡ None = ap (λ (x : BookOf g.row.D.Denot). x.journal.doubt) c.self.view_is ∙ c.requires.settled in
-    let now = subst (IsBook T L S M past) (sym c.self.view_is) is in
+    let now = subst (IsBook law past) (sym c.self.view_is) is in
     let p = c.in_ok-prepared.ensures.answer in
     let same = same_on i.log c.prepare.new.log c.confirm.new.log c.prepare.ensures.log c.in_ok-receipt.ensures.log in
     let it = c.entry_of.ensures in
@@ -154,9 +136,9 @@ returns-clause-kept g c = λ past is.
           c.enter.ensures.moments ∙ ap (λ x. x.log.moments.items ++ c.moment-moment.result ∷ []) w.self-inside-is in
           let doubts : c.enter.new.self.doubts.items ≡ c.confirm.new.log.doubts.items =
           c.enter.ensures.doubts ∙ ap (λ x. x.log.doubts.items) w.self-inside-is in
-          let time = c.moment-moment.ensures ∙ ap (λ x. M x.journal.disk) w.self-inside-is in
-          subst (λ x. IsBook T L S M past (book_of x.host x.opened x.start c.enter.new.self x.claims x.journal)) (sym w.self-inside-is)
-          (stored T L S M laws.only_now past i.claims i.host w.install.new.self i.opened i.start i.log c.confirm.new.log c.confirm.new.log
+          let time = c.moment-moment.ensures ∙ ap (λ x. law.moment x.journal.disk) w.self-inside-is in
+          subst (λ x. IsBook law past (book_of x.host x.opened x.start c.enter.new.self x.claims x.journal)) (sym w.self-inside-is)
+          (stored law laws.only_now past i.claims i.host w.install.new.self i.opened i.start i.log c.confirm.new.log c.confirm.new.log
           c.enter.new.self i.journal w.append.new.self c.args.command e c.moment-moment.result w.slice.result.now now same
           (record { history = refl; moments = refl; doubts = refl }) host history moments time doubts command told a.added.1.1
           a.added.1.0 a.elapsed a.time (λ bodies k. a.acknowledged first_head bodies k)
@@ -175,9 +157,9 @@ returns-clause-kept g c = λ past is.
           c.enter.ensures.moments ∙ ap (λ x. x.log.moments.items ++ c.moment-moment.result ∷ []) w.self-inside-is in
           let doubts : c.enter.new.self.doubts.items ≡ c.confirm.new.log.doubts.items =
           c.enter.ensures.doubts ∙ ap (λ x. x.log.doubts.items) w.self-inside-is in
-          let time = c.moment-moment.ensures ∙ ap (λ x. M x.journal.disk) w.self-inside-is in
-          subst (λ x. IsBook T L S M past (book_of x.host x.opened x.start c.enter.new.self x.claims x.journal)) (sym w.self-inside-is)
-          (not_accepted T L S M laws.only_now past i.claims i.host c.prepare.new.host i.opened i.start i.log c.confirm.new.log
+          let time = c.moment-moment.ensures ∙ ap (λ x. law.moment x.journal.disk) w.self-inside-is in
+          subst (λ x. IsBook law past (book_of x.host x.opened x.start c.enter.new.self x.claims x.journal)) (sym w.self-inside-is)
+          (not_accepted law laws.only_now past i.claims i.host c.prepare.new.host i.opened i.start i.log c.confirm.new.log
           c.enter.new.self i.journal c.args.command e c.moment-moment.result now same c.prepare.ensures.image history moments time
           doubts command told none denied)
     ]
@@ -185,18 +167,14 @@ returns-clause-kept g c = λ past is.
 pub invariant_of-self-2 : goal.invariant_of-self-2
 invariant_of-self-2 g c = record {
   past = c.self.invariant.past;
-  is = returns-clause-kept g c c.self.invariant.past
-      (subst (IsBook g.D.Disk.tells g.D.Disk.may_leave g.D.Disk.may_have_left g.D.Disk.moment c.self.invariant.past) c.self.view_is
+  is = returns-clause-kept g c c.self.invariant.past (subst (IsBook g.D.Disk.law c.self.invariant.past) c.self.view_is
       c.self.invariant.is);
 }
 
 pub returns-clause-ok : goal.returns-clause-ok
 returns-clause-ok g c =
     let laws = g.met.D.Disk g.world.𝓛 g.world.𝓜 g.world.𝓡 ((λ s x. x), (λ x. x), (λ x. x), λ x. x) in
-    let T = g.D.Disk.tells in
-    let L = g.D.Disk.may_leave in
-    let S = g.D.Disk.may_have_left in
-    let M = g.D.Disk.moment in
+    let law = g.D.Disk.law in
     let i = c.self.inside in
     let b : BookOf g.row.D.Denot = book_of i.host i.opened i.start i.log i.claims i.journal in
     let none : i.journal.doubt ≡ None = ap (λ (x : BookOf g.row.D.Denot). x.journal.doubt) c.self.view_is ∙ c.requires.settled in
@@ -228,7 +206,7 @@ returns-clause-ok g c =
           c.enter.ensures.moments ∙ ap (λ x. x.log.moments.items ++ c.moment-moment.result ∷ []) w.self-inside-is in
           let doubts : c.enter.new.self.doubts.items ≡ c.confirm.new.log.doubts.items =
           c.enter.ensures.doubts ∙ ap (λ x. x.log.doubts.items) w.self-inside-is in
-          let time = c.moment-moment.ensures ∙ ap (λ x. M x.journal.disk) w.self-inside-is in
+          let time = c.moment-moment.ensures ∙ ap (λ x. law.moment x.journal.disk) w.self-inside-is in
           let entries : c.enter.new.self.history.entries ≡ i.log.history.entries ++ e ∷ [] =
           history ∙ ap (λ (es : List Entry). es ++ e ∷ []) same.history in
           subst (λ (x : BookOf g.row.D.Denot). Acknowledges c.args.who c.args.command x
@@ -260,7 +238,7 @@ returns-clause-ok g c =
           c.enter.ensures.moments ∙ ap (λ x. x.log.moments.items ++ c.moment-moment.result ∷ []) w.self-inside-is in
           let doubts : c.enter.new.self.doubts.items ≡ c.confirm.new.log.doubts.items =
           c.enter.ensures.doubts ∙ ap (λ x. x.log.doubts.items) w.self-inside-is in
-          let time = c.moment-moment.ensures ∙ ap (λ x. M x.journal.disk) w.self-inside-is in
+          let time = c.moment-moment.ensures ∙ ap (λ x. law.moment x.journal.disk) w.self-inside-is in
           let entries : c.enter.new.self.history.entries ≡ i.log.history.entries ++ e ∷ [] =
           history ∙ ap (λ (es : List Entry). es ++ e ∷ []) same.history in
           subst (λ (x : BookOf g.row.D.Denot). Acknowledges c.args.who c.args.command x
@@ -283,14 +261,11 @@ returns-clause-ok g c =
 pub returns-clause-any_moment : goal.returns-clause-any_moment
 returns-clause-any_moment g c = λ told past is.
     let laws = g.met.D.Disk g.world.𝓛 g.world.𝓜 g.world.𝓡 ((λ s x. x), (λ x. x), (λ x. x), λ x. x) in
-    let T = g.D.Disk.tells in
-    let L = g.D.Disk.may_leave in
-    let S = g.D.Disk.may_have_left in
-    let M = g.D.Disk.moment in
+    let law = g.D.Disk.law in
     let i = c.self.inside in
     let b : BookOf g.row.D.Denot = book_of i.host i.opened i.start i.log i.claims i.journal in
     let none : i.journal.doubt ≡ None = ap (λ (x : BookOf g.row.D.Denot). x.journal.doubt) c.self.view_is ∙ c.requires.settled in
-    let now = subst (IsBook T L S M past) (sym c.self.view_is) is in
+    let now = subst (IsBook law past) (sym c.self.view_is) is in
     let p = c.in_ok-prepared.ensures.answer in
     let same = same_on i.log c.prepare.new.log c.confirm.new.log c.prepare.ensures.log c.in_ok-receipt.ensures.log in
     elim c.if-is_accepted.branch [
@@ -302,12 +277,12 @@ returns-clause-any_moment g c = λ told past is.
           let n = w.install.ensures in
           let host : w.install.new.self.image ≡ (answer i.host.image c.args.command).host =
           n.image ∙ ap (λ h. installed c.in_ok-prepared.prepared.changes h) c.prepare.ensures.image ∙ p.host in
-          subst (λ (x : BookOf g.row.D.Denot). LeavesOnly M S x.journal.disk c.if-is_accepted.self-inside.journal.disk (IsAllOrMore past x c.args.command)) c.self.view_is
-          (subst (λ x. LeavesOnly M S b.journal.disk x.journal.disk (IsAllOrMore past b c.args.command)) (sym w.self-inside-is)
-          (during_store T L S M laws.only_now past b now told w.append.new.self.disk w.slice.result.now c.args.command body.spells granted
+          subst (λ (x : BookOf g.row.D.Denot). LeavesOnly law x.journal.disk c.if-is_accepted.self-inside.journal.disk (IsAllOrMore past x c.args.command)) c.self.view_is
+          (subst (λ x. LeavesOnly law b.journal.disk x.journal.disk (IsAllOrMore past b c.args.command)) (sym w.self-inside-is)
+          (during_store law laws.only_now past b now told w.append.new.self.disk w.slice.result.now c.args.command body.spells granted
           (λ bodies k. a.any_moment first_head bodies k)))
       | else-is_accepted w ↦
-          subst (λ (x : BookOf g.row.D.Denot). LeavesOnly M S x.journal.disk c.if-is_accepted.self-inside.journal.disk (IsAllOrMore past x c.args.command)) c.self.view_is
-          (subst (λ x. LeavesOnly M S b.journal.disk x.journal.disk (IsAllOrMore past b c.args.command)) (sym w.self-inside-is)
-          (during_none T L S M laws.only_now past b now told none c.args.command))
+          subst (λ (x : BookOf g.row.D.Denot). LeavesOnly law x.journal.disk c.if-is_accepted.self-inside.journal.disk (IsAllOrMore past x c.args.command)) c.self.view_is
+          (subst (λ x. LeavesOnly law b.journal.disk x.journal.disk (IsAllOrMore past b c.args.command)) (sym w.self-inside-is)
+          (during_none law laws.only_now past b now told none c.args.command))
     ]

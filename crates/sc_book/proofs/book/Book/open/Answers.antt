@@ -1,12 +1,24 @@
 use Rattle.std.proofs.Common.{◌∙◌, inr, ℕ, List, length, ap, subst}
 use Rattle.sc_dev.specs.Disks.{DiskOf}
 use Rattle.sc_book.specs.Openings.{IsFirstBad, IsReplayed}
-use Rattle.sc_book.proofs.OpenLemmas.{both_ways, err_both, err_more, no_place, none_bad, ok_more, other_first, stands_accepted, stands_same}
+use Rattle.sc_book.proofs.OpenLemmas.{both_ways, err_both, err_more, no_place, none_bad, ok_both, ok_more, other_first, reads_as, stands_accepted, stands_same}
 use Rattle.sc_book.proofs.book.Book.open.Goals as goal
+
+pub returns-in-Ok-clause-reads : goal.returns-in-Ok-clause-reads
+returns-in-Ok-clause-reads g c = λ told.
+    let laws = g.met.D.Disk g.world.𝓛 g.world.𝓜 g.world.𝓡 ((λ s x. x), (λ x. x), (λ x. x), λ x. x) in
+    let law = g.D.Disk.law in
+    let o = c.in-Ok.ensures in
+    let j = c.in-Ok.opened.journal in
+    let left : law.may_leave j.disk (law.reads c.args.disk) = subst (λ (x : DiskOf). law.may_leave j.disk x) o.stays (laws.stands j.disk) in
+    ok_both c.begin.result _ _ _
+    (λ b first made. reads_as law laws.only_now j (law.reads c.args.disk) c.in-Ok.opened.first b.opened c.in-Ok.opened.bodies b.host
+    (o.keeps told) o.settled left first made.0 made.1)
+    c.begin.ensures.first c.begin.ensures.replayed
 
 pub returns-in-Ok-clause-stands : goal.returns-in-Ok-clause-stands
 returns-in-Ok-clause-stands g c = λ told n h st.
-    let d = g.D.Disk.reads c.args.disk in
+    let d = g.D.Disk.law.reads c.args.disk in
     let whole = c.in-Ok.ensures.whole told st.head st.bodies st.holds in
     both_ways c.begin.result _ _
     (ok_more c.begin.result _ _
@@ -29,18 +41,15 @@ returns-in-Err-clause-stands g c = λ told n h st.
 pub returns-in-Ok-clause-damaged : goal.returns-in-Ok-clause-damaged
 returns-in-Ok-clause-damaged g c = λ told.
     let laws = g.met.D.Disk g.world.𝓛 g.world.𝓜 g.world.𝓡 ((λ s x. x), (λ x. x), (λ x. x), λ x. x) in
-    let T = g.D.Disk.tells in
-    let L = g.D.Disk.may_leave in
-    let S = g.D.Disk.may_have_left in
-    let M = g.D.Disk.moment in
+    let law = g.D.Disk.law in
     let o = c.in-Ok.ensures in
     let j = c.in-Ok.opened.journal in
-    let stands : L j.disk (g.D.Disk.reads c.args.disk) = subst (λ (x : DiskOf). L j.disk x) o.stays (laws.stands j.disk) in
+    let stands : law.may_leave j.disk (g.D.Disk.law.reads c.args.disk) = subst (λ (x : DiskOf). law.may_leave j.disk x) o.stays (laws.stands j.disk) in
     err_more c.begin.result _ _
     (λ f other at is. let found = other at is in
     inr (
       found.0,
-      other_first T L S M laws.only_now j (g.D.Disk.reads c.args.disk) _ c.in-Ok.opened.bodies (o.keeps told)
+      other_first law laws.only_now j (g.D.Disk.law.reads c.args.disk) _ c.in-Ok.opened.bodies (o.keeps told)
           o.settled stands found.1,
     ))
     c.begin.ensures.other
@@ -54,3 +63,7 @@ returns-in-Ok-clause-bad g c = λ told.
       first = (bad n is).1;
     })
     c.begin.ensures.bad
+
+pub returns-in-Err-clause-fine : goal.returns-in-Err-clause-fine
+returns-in-Err-clause-fine g c = λ other.
+    ap g.D.Disk.law.faults c.into_disk.ensures ∙ c.in-Err.ensures.fine (λ is. other (c.fault_of-fault.ensures.from_disk is))

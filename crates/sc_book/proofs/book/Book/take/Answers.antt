@@ -29,17 +29,14 @@ new-requires-clause-turn g c κs within =
 
 pub invariant_of-self-in-Some : goal.invariant_of-self-in-Some
 invariant_of-self-in-Some g c =
-    let T = g.D.Disk.tells in
-    let L = g.D.Disk.may_leave in
-    let S = g.D.Disk.may_have_left in
-    let M = g.D.Disk.moment in
+    let law = g.D.Disk.law in
     let i = c.self.inside in
     let b : BookOf g.row.D.Denot = book_of i.host i.opened i.start i.log i.claims i.journal in
     record {
       past = c.self.invariant.past;
-      is = subst (λ (h : HostImage). IsBook T L S M c.self.invariant.past (record b { host = h; claims = c.insert.new.self.places }))
+      is = subst (λ (h : HostImage). IsBook law c.self.invariant.past (record b { host = h; claims = c.insert.new.self.places }))
           (sym c.in_ok-input.ensures.image)
-          (is_claimed T L S M c.self.invariant.past b c.insert.new.self.places c.self.invariant.is);
+          (is_claimed law c.self.invariant.past b c.insert.new.self.places c.self.invariant.is);
     }
 
 pub unreachable-requires : goal.unreachable-requires
@@ -77,15 +74,12 @@ returns-clause-ok g c =
 
 pub returns-clause-kept : goal.returns-clause-kept
 returns-clause-kept g c = λ past is.
-    let T = g.D.Disk.tells in
-    let L = g.D.Disk.may_leave in
-    let S = g.D.Disk.may_have_left in
-    let M = g.D.Disk.moment in
+    let law = g.D.Disk.law in
     let i = c.self.inside in
     let b : BookOf g.row.D.Denot = book_of i.host i.opened i.start i.log i.claims i.journal in
-    subst (λ (h : HostImage). IsBook T L S M past (record b { host = h; claims = c.insert.new.self.places }))
+    subst (λ (h : HostImage). IsBook law past (record b { host = h; claims = c.insert.new.self.places }))
     (sym c.in_ok-input.ensures.image)
-    (is_claimed T L S M past b c.insert.new.self.places (subst (IsBook T L S M past) (sym c.self.view_is) is))
+    (is_claimed law past b c.insert.new.self.places (subst (IsBook law past) (sym c.self.view_is) is))
 
 pub returns-clause-stays : goal.returns-clause-stays
 returns-clause-stays g c = λ host command. stays_ready host c.new.result.place command

@@ -28,29 +28,23 @@ write_synced-requires-clause-range g c κs within =
 pub returns-in_err-write_synced-clause-kept : goal.returns-in_err-write_synced-clause-kept
 returns-in_err-write_synced-clause-kept g c = λ head bodies keeps.
     let laws = g.met.D.Disk g.world.𝓛 g.world.𝓜 g.world.𝓡 ((λ s x. x), (λ x. x), (λ x. x), λ x. x) in
-    let T = g.D.Disk.tells in
-    let R = g.D.Disk.reads in
-    let L = g.D.Disk.may_leave in
+    let law = g.D.Disk.law in
     let j = journal_inside c.self.inside in
-    let kj = subst (λ (x : JournalOf g.row.D.Denot). Keeps T L x head bodies) (sym c.self.view_is) keeps in
+    let kj = subst (λ (x : JournalOf g.row.D.Denot). Keeps law x head bodies) (sym c.self.view_is) keeps in
     let none : j.doubt ≡ None = ap (λ (x : JournalOf g.row.D.Denot). x.doubt) c.self.view_is ∙ c.requires.settled in
     let k : JournalOf g.row.D.Denot = record { disk = c.write_synced.new.disk; end = j.end; next = j.next; doubt = doubted c.self.inside.is_in_doubt c.fill.new.buffer.items } in
-    on-err _ _ (kept-behind T R L head bodies j kj k (length c.deref.result.now) none (still c.self.inside.is_in_doubt c.self.inside.buffer.items c.fill.new.buffer.items none) refl refl c.write_synced.ensures.images)
+    on-err _ _ (kept-behind law head bodies j kj k (length c.deref.result.now) none (still c.self.inside.is_in_doubt c.self.inside.buffer.items c.fill.new.buffer.items none) refl refl c.write_synced.ensures.images)
 
 pub returns-in_err-write_synced-clause-any_moment :
     goal.returns-in_err-write_synced-clause-any_moment
 returns-in_err-write_synced-clause-any_moment g c = λ head bodies keeps.
     let laws = g.met.D.Disk g.world.𝓛 g.world.𝓜 g.world.𝓡 ((λ s x. x), (λ x. x), (λ x. x), λ x. x) in
-    let T = g.D.Disk.tells in
-    let R = g.D.Disk.reads in
-    let L = g.D.Disk.may_leave in
+    let law = g.D.Disk.law in
     let j = journal_inside c.self.inside in
-    let kj = subst (λ (x : JournalOf g.row.D.Denot). Keeps T L x head bodies) (sym c.self.view_is) keeps in
+    let kj = subst (λ (x : JournalOf g.row.D.Denot). Keeps law x head bodies) (sym c.self.view_is) keeps in
     let none : j.doubt ≡ None = ap (λ (x : JournalOf g.row.D.Denot). x.doubt) c.self.view_is ∙ c.requires.settled in
-    let M = g.D.Disk.moment in
-    let S = g.D.Disk.may_have_left in
-    let start = moments-behind T R L M S laws.only_now head bodies j kj c.args.body.now c.write_synced.new.disk (length c.deref.result.now) none c.write_synced.ensures.passes in
-    subst (λ (x : JournalOf g.row.D.Denot). LeavesOnly M S x.disk c.write_synced.new.disk (IsWithOrWithout head bodies c.args.body.now)) c.self.view_is start
+    let start = moments-behind law laws.only_now head bodies j kj c.args.body.now c.write_synced.new.disk (length c.deref.result.now) none c.write_synced.ensures.passes in
+    subst (λ (x : JournalOf g.row.D.Denot). LeavesOnly law x.disk c.write_synced.new.disk (IsWithOrWithout head bodies c.args.body.now)) c.self.view_is start
 
 pub returns-in_err-write_synced-2-clause-not_added :
     goal.returns-in_err-write_synced-2-clause-not_added
@@ -63,11 +57,9 @@ returns-in_err-write_synced-2-clause-not_added g c =
 pub returns-in_err-write_synced-2-clause-kept : goal.returns-in_err-write_synced-2-clause-kept
 returns-in_err-write_synced-2-clause-kept g c = λ head bodies keeps.
     let laws = g.met.D.Disk g.world.𝓛 g.world.𝓜 g.world.𝓡 ((λ s x. x), (λ x. x), (λ x. x), λ x. x) in
-    let T = g.D.Disk.tells in
-    let R = g.D.Disk.reads in
-    let L = g.D.Disk.may_leave in
+    let law = g.D.Disk.law in
     let j = journal_inside c.self.inside in
-    let kj = subst (λ (x : JournalOf g.row.D.Denot). Keeps T L x head bodies) (sym c.self.view_is) keeps in
+    let kj = subst (λ (x : JournalOf g.row.D.Denot). Keeps law x head bodies) (sym c.self.view_is) keeps in
     let none : j.doubt ≡ None = ap (λ (x : JournalOf g.row.D.Denot). x.doubt) c.self.view_is ∙ c.requires.settled in
     let same_end : c.self.inside.end ≡ c.args.self.now.end = ap (λ (x : JournalOf g.row.D.Denot). x.end) c.self.view_is in
     let same_next : c.self.inside.next ≡ c.args.self.now.next = ap (λ (x : JournalOf g.row.D.Denot). x.next) c.self.view_is in
@@ -75,19 +67,17 @@ returns-in_err-write_synced-2-clause-kept g c = λ head bodies keeps.
     let number : j.next ≤ 2 ^ 48 = omega (arith, same_next, room.1) in
     let form = c.deref.ensures.value ∙ c.fill.ensures.items in
     let first = c.in_ok-write_synced.ensures in
-    let mid = staged T R L head bodies j kj c.write_synced.new.disk c.args.body.now c.deref.result.now (laws.stands j.disk) none c.requires.some c.requires.most number
+    let mid = staged law head bodies j kj c.write_synced.new.disk c.args.body.now c.deref.result.now (laws.stands j.disk) none c.requires.some c.requires.most number
     form (first.outside kj.told) (first.written kj.told) (first.durable kj.told) in
-    on-err _ _ (kept-gate T R L head bodies j kj _ c.write_synced.new.disk c.args.body.now mid (ap Some (buffered _ _ c.fill.ensures.items)) refl refl c.write_synced-2.ensures.images)
+    on-err _ _ (kept-gate law head bodies j kj _ c.write_synced.new.disk c.args.body.now mid (ap Some (buffered _ _ c.fill.ensures.items)) refl refl c.write_synced-2.ensures.images)
 
 pub returns-in_err-write_synced-2-clause-any_moment :
     goal.returns-in_err-write_synced-2-clause-any_moment
 returns-in_err-write_synced-2-clause-any_moment g c = λ head bodies keeps.
     let laws = g.met.D.Disk g.world.𝓛 g.world.𝓜 g.world.𝓡 ((λ s x. x), (λ x. x), (λ x. x), λ x. x) in
-    let T = g.D.Disk.tells in
-    let R = g.D.Disk.reads in
-    let L = g.D.Disk.may_leave in
+    let law = g.D.Disk.law in
     let j = journal_inside c.self.inside in
-    let kj = subst (λ (x : JournalOf g.row.D.Denot). Keeps T L x head bodies) (sym c.self.view_is) keeps in
+    let kj = subst (λ (x : JournalOf g.row.D.Denot). Keeps law x head bodies) (sym c.self.view_is) keeps in
     let none : j.doubt ≡ None = ap (λ (x : JournalOf g.row.D.Denot). x.doubt) c.self.view_is ∙ c.requires.settled in
     let same_end : c.self.inside.end ≡ c.args.self.now.end = ap (λ (x : JournalOf g.row.D.Denot). x.end) c.self.view_is in
     let same_next : c.self.inside.next ≡ c.args.self.now.next = ap (λ (x : JournalOf g.row.D.Denot). x.next) c.self.view_is in
@@ -95,22 +85,18 @@ returns-in_err-write_synced-2-clause-any_moment g c = λ head bodies keeps.
     let number : j.next ≤ 2 ^ 48 = omega (arith, same_next, room.1) in
     let form = c.deref.ensures.value ∙ c.fill.ensures.items in
     let first = c.in_ok-write_synced.ensures in
-    let mid = staged T R L head bodies j kj c.write_synced.new.disk c.args.body.now c.deref.result.now (laws.stands j.disk) none c.requires.some c.requires.most number
+    let mid = staged law head bodies j kj c.write_synced.new.disk c.args.body.now c.deref.result.now (laws.stands j.disk) none c.requires.some c.requires.most number
     form (first.outside kj.told) (first.written kj.told) (first.durable kj.told) in
-    let M = g.D.Disk.moment in
-    let S = g.D.Disk.may_have_left in
-    let start = moments-behind T R L M S laws.only_now head bodies j kj c.args.body.now c.write_synced.new.disk (length c.deref.result.now) none c.write_synced.ensures.passes in
-    subst (λ (x : JournalOf g.row.D.Denot). LeavesOnly M S x.disk c.write_synced-2.new.disk (IsWithOrWithout head bodies c.args.body.now)) c.self.view_is
-    (moments-gate T R L M S laws.only_now head bodies j kj c.args.body.now c.write_synced.new.disk c.write_synced-2.new.disk start mid c.write_synced-2.ensures.passes)
+    let start = moments-behind law laws.only_now head bodies j kj c.args.body.now c.write_synced.new.disk (length c.deref.result.now) none c.write_synced.ensures.passes in
+    subst (λ (x : JournalOf g.row.D.Denot). LeavesOnly law x.disk c.write_synced-2.new.disk (IsWithOrWithout head bodies c.args.body.now)) c.self.view_is
+    (moments-gate law laws.only_now head bodies j kj c.args.body.now c.write_synced.new.disk c.write_synced-2.new.disk start mid c.write_synced-2.ensures.passes)
 
 pub returns-clause-acknowledged : goal.returns-clause-acknowledged
 returns-clause-acknowledged g c = λ head bodies keeps.
     let laws = g.met.D.Disk g.world.𝓛 g.world.𝓜 g.world.𝓡 ((λ s x. x), (λ x. x), (λ x. x), λ x. x) in
-    let T = g.D.Disk.tells in
-    let R = g.D.Disk.reads in
-    let L = g.D.Disk.may_leave in
+    let law = g.D.Disk.law in
     let j = journal_inside c.self.inside in
-    let kj = subst (λ (x : JournalOf g.row.D.Denot). Keeps T L x head bodies) (sym c.self.view_is) keeps in
+    let kj = subst (λ (x : JournalOf g.row.D.Denot). Keeps law x head bodies) (sym c.self.view_is) keeps in
     let none : j.doubt ≡ None = ap (λ (x : JournalOf g.row.D.Denot). x.doubt) c.self.view_is ∙ c.requires.settled in
     let same_end : c.self.inside.end ≡ c.args.self.now.end = ap (λ (x : JournalOf g.row.D.Denot). x.end) c.self.view_is in
     let same_next : c.self.inside.next ≡ c.args.self.now.next = ap (λ (x : JournalOf g.row.D.Denot). x.next) c.self.view_is in
@@ -118,20 +104,18 @@ returns-clause-acknowledged g c = λ head bodies keeps.
     let number : j.next ≤ 2 ^ 48 = omega (arith, same_next, room.1) in
     let form = c.deref.ensures.value ∙ c.fill.ensures.items in
     let first = c.in_ok-write_synced.ensures in
-    let mid = staged T R L head bodies j kj c.write_synced.new.disk c.args.body.now c.deref.result.now (laws.stands j.disk) none c.requires.some c.requires.most number
+    let mid = staged law head bodies j kj c.write_synced.new.disk c.args.body.now c.deref.result.now (laws.stands j.disk) none c.requires.some c.requires.most number
     form (first.outside kj.told) (first.written kj.told) (first.durable kj.told) in
     let second = c.in_ok-write_synced-2.ensures in
-    kept-open T R L head bodies j kj _ c.write_synced.new.disk c.args.body.now mid (laws.stands c.write_synced.new.disk) refl refl refl
+    kept-open law head bodies j kj _ c.write_synced.new.disk c.args.body.now mid (laws.stands c.write_synced.new.disk) refl refl refl
     (second.outside kj.told) (second.written kj.told) (second.durable kj.told)
 
 pub returns-clause-any_moment : goal.returns-clause-any_moment
 returns-clause-any_moment g c = λ head bodies keeps.
     let laws = g.met.D.Disk g.world.𝓛 g.world.𝓜 g.world.𝓡 ((λ s x. x), (λ x. x), (λ x. x), λ x. x) in
-    let T = g.D.Disk.tells in
-    let R = g.D.Disk.reads in
-    let L = g.D.Disk.may_leave in
+    let law = g.D.Disk.law in
     let j = journal_inside c.self.inside in
-    let kj = subst (λ (x : JournalOf g.row.D.Denot). Keeps T L x head bodies) (sym c.self.view_is) keeps in
+    let kj = subst (λ (x : JournalOf g.row.D.Denot). Keeps law x head bodies) (sym c.self.view_is) keeps in
     let none : j.doubt ≡ None = ap (λ (x : JournalOf g.row.D.Denot). x.doubt) c.self.view_is ∙ c.requires.settled in
     let same_end : c.self.inside.end ≡ c.args.self.now.end = ap (λ (x : JournalOf g.row.D.Denot). x.end) c.self.view_is in
     let same_next : c.self.inside.next ≡ c.args.self.now.next = ap (λ (x : JournalOf g.row.D.Denot). x.next) c.self.view_is in
@@ -139,10 +123,8 @@ returns-clause-any_moment g c = λ head bodies keeps.
     let number : j.next ≤ 2 ^ 48 = omega (arith, same_next, room.1) in
     let form = c.deref.ensures.value ∙ c.fill.ensures.items in
     let first = c.in_ok-write_synced.ensures in
-    let mid = staged T R L head bodies j kj c.write_synced.new.disk c.args.body.now c.deref.result.now (laws.stands j.disk) none c.requires.some c.requires.most number
+    let mid = staged law head bodies j kj c.write_synced.new.disk c.args.body.now c.deref.result.now (laws.stands j.disk) none c.requires.some c.requires.most number
     form (first.outside kj.told) (first.written kj.told) (first.durable kj.told) in
-    let M = g.D.Disk.moment in
-    let S = g.D.Disk.may_have_left in
-    let start = moments-behind T R L M S laws.only_now head bodies j kj c.args.body.now c.write_synced.new.disk (length c.deref.result.now) none c.write_synced.ensures.passes in
-    subst (λ (x : JournalOf g.row.D.Denot). LeavesOnly M S x.disk c.write_synced-2.new.disk (IsWithOrWithout head bodies c.args.body.now)) c.self.view_is
-    (moments-gate T R L M S laws.only_now head bodies j kj c.args.body.now c.write_synced.new.disk c.write_synced-2.new.disk start mid c.write_synced-2.ensures.passes)
+    let start = moments-behind law laws.only_now head bodies j kj c.args.body.now c.write_synced.new.disk (length c.deref.result.now) none c.write_synced.ensures.passes in
+    subst (λ (x : JournalOf g.row.D.Denot). LeavesOnly law x.disk c.write_synced-2.new.disk (IsWithOrWithout head bodies c.args.body.now)) c.self.view_is
+    (moments-gate law laws.only_now head bodies j kj c.args.body.now c.write_synced.new.disk c.write_synced-2.new.disk start mid c.write_synced-2.ensures.passes)

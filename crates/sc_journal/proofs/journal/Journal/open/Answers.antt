@@ -10,7 +10,7 @@ other x y e = cc
 
 pub returns-in-Ok-clause-whole : goal.returns-in-Ok-clause-whole
 returns-in-Ok-clause-whole g c = λ told head bodies holds.
-    let text = (g.D.Disk.reads c.args.disk).journal in
+    let text = (g.D.Disk.law.reads c.args.disk).journal in
     let read = held-holds head bodies text holds in
     let first : c.in-Ok.loaded.found.first ≡ head.first = same _ _ (sym (c.in-Ok.ensures.first told) ∙ read.0) in
     let all : c.in-Ok.loaded.found.bodies ≡ bodies = same _ _ (sym (c.in-Ok.ensures.bodies told) ∙ read.1) in
@@ -18,5 +18,5 @@ returns-in-Ok-clause-whole g c = λ told head bodies holds.
 
 pub returns-in-Err-clause-whole : goal.returns-in-Err-clause-whole
 returns-in-Err-clause-whole g c = λ told head bodies holds at e.
-    let read = held-holds head bodies (g.D.Disk.reads c.args.disk).journal holds in
+    let read = held-holds head bodies (g.D.Disk.law.reads c.args.disk).journal holds in
     other _ _ (sym read.1 ∙ c.in-Err.ensures.damaged told at (ap Err e))

@@ -6,7 +6,7 @@ use Rattle.sc_pool.proofs.locked.Locked.step_once.Goals as goal
 
 pub invariant_of-self : goal.invariant_of-self
 invariant_of-self g c =
-    let P : Bool → Type 0 = λ b. Steps b ((seen_of g.D.Disk.tells g.D.Disk.may_leave g.D.Disk.may_have_left g.D.Disk.moment g.D.Disk.faults g.D.Disk.identity) c.self.inside.book) ((seen_of g.D.Disk.tells g.D.Disk.may_leave g.D.Disk.may_have_left g.D.Disk.moment g.D.Disk.faults g.D.Disk.identity) c.step_first.new.book) in (
+    let P : Bool → Type 0 = λ b. Steps b ((seen_of g.D.Disk.law) c.self.inside.book) ((seen_of g.D.Disk.law) c.step_first.new.book) in (
       worker_made _ _ _ _ _ c.self.invariant.0 (subst P c.in-Ok-true.field-0-test c.in-Ok-true.ensures.steps) c.in-Ok-true.ensures.goes_on
           (omega (arith, c.if-steps-self.false, c.steps.ensures, c.self.invariant.1)),
       c.self.invariant.1,

@@ -22,22 +22,17 @@ loop-command-preserved g c =
     let here : (cs : List Made)
     → of_client n c.loop-command.left ++ cs ≡ (n, first) ∷ left cs =
     λ cs. ap (λ (xs : List Command). of_client n xs ++ cs) c.in-Some.ensures in
-    let before : (cs : List Made) → Goes old cur (all cs) ((n, first) ∷ left cs) =
-    λ cs. subst (Goes old cur (all cs)) (here cs) (at.goes cs) in
-    let made : (cs : List Made) → Goes old mid (all cs) (left cs) =
+    let before : (cs : List Made) → Goes g.D.Disk.law old cur (all cs) ((n, first) ∷ left cs) =
+    λ cs. subst (Goes g.D.Disk.law old cur (all cs)) (here cs) (at.goes cs) in
+    let made : (cs : List Made) → Goes g.D.Disk.law old mid (all cs) (left cs) =
     λ cs. goes_further old cur mid (all cs) ((n, first) ∷ left cs) (left cs) (before cs)
     (goes_by_command cur mid n first (left cs) at.stepped c.in_ok-make.ensures.ok) in
-    let T = g.D.Disk.tells in
-    let L = g.D.Disk.may_leave in
-    let S = g.D.Disk.may_have_left in
-    let M = g.D.Disk.moment in
-    let F = g.D.Disk.faults in
-    let I = g.D.Disk.identity in
+    let law = g.D.Disk.law in
     record {
       goes = λ cs. goes_further old mid new (all cs) (left cs) (left cs) (made cs) (stepped.goes (left cs));
       stepped = stepped.stepped;
-      on = goes_on_further T L S M F I old.book mid.book new.book
-          (goes_on_further T L S M F I old.book cur.book mid.book at.on c.in_ok-make.ensures.goes_on) stepped.goes_on;
+      on = goes_on_further law old.book mid.book new.book
+          (goes_on_further law old.book cur.book mid.book at.on c.in_ok-make.ensures.goes_on) stepped.goes_on;
     }
 
 pub returns-in_err-make-clause-stops : goal.returns-in_err-make-clause-stops
@@ -55,15 +50,11 @@ returns-in_err-make-clause-stops g c =
     let here : (cs : List Made)
     → of_client n c.loop-command.left ++ cs ≡ (n, first) ∷ left cs =
     λ cs. ap (λ (xs : List Command). of_client n xs ++ cs) c.in-Some.ensures in
-    let T = g.D.Disk.tells in
-    let L = g.D.Disk.may_leave in
-    let S = g.D.Disk.may_have_left in
-    let M = g.D.Disk.moment in
-    let F = g.D.Disk.faults in
+    let law = g.D.Disk.law in
     let fault = c.in_err-make.field-0.0 in
-    rw (p.1, p.2) (λ cs. stops_further T L S M F g.D.Disk.identity fault old cur new (all cs) ((n, first) ∷ left cs)
-    (subst (Goes old cur (all cs)) (here cs) (at.goes cs)) at.on
-    (stops_by_command T L S M F fault cur new n first (left cs) at.stepped c.in_err-make.ensures.err))
+    rw (p.1, p.2) (λ cs. stops_further law fault old cur new (all cs) ((n, first) ∷ left cs)
+    (subst (Goes g.D.Disk.law old cur (all cs)) (here cs) (at.goes cs)) at.on
+    (stops_by_command law fault cur new n first (left cs) at.stepped c.in_err-make.ensures.err))
 
 pub returns-in_err-step_all-clause-stops : goal.returns-in_err-step_all-clause-stops
 returns-in_err-step_all-clause-stops g c =
@@ -81,18 +72,13 @@ returns-in_err-step_all-clause-stops g c =
     let here : (cs : List Made)
     → of_client n c.loop-command.left ++ cs ≡ (n, first) ∷ left cs =
     λ cs. ap (λ (xs : List Command). of_client n xs ++ cs) c.in-Some.ensures in
-    let made : (cs : List Made) → Goes old mid (all cs) (left cs) =
+    let made : (cs : List Made) → Goes g.D.Disk.law old mid (all cs) (left cs) =
     λ cs. goes_further old cur mid (all cs) ((n, first) ∷ left cs) (left cs)
-    (subst (Goes old cur (all cs)) (here cs) (at.goes cs))
+    (subst (Goes g.D.Disk.law old cur (all cs)) (here cs) (at.goes cs))
     (goes_by_command cur mid n first (left cs) at.stepped c.in_ok-make.ensures.ok) in
-    let T = g.D.Disk.tells in
-    let L = g.D.Disk.may_leave in
-    let S = g.D.Disk.may_have_left in
-    let M = g.D.Disk.moment in
-    let F = g.D.Disk.faults in
-    let I = g.D.Disk.identity in
-    rw (p.1, p.2) (λ cs. stops_further T L S M F I c.in_err-step_all.field-0.0 old mid new (all cs) (left cs) (made cs)
-    (goes_on_further T L S M F I old.book cur.book mid.book at.on c.in_ok-make.ensures.goes_on)
+    let law = g.D.Disk.law in
+    rw (p.1, p.2) (λ cs. stops_further law c.in_err-step_all.field-0.0 old mid new (all cs) (left cs) (made cs)
+    (goes_on_further law old.book cur.book mid.book at.on c.in_ok-make.ensures.goes_on)
     (c.in_err-step_all.ensures.stops (left cs)))
 
 pub loop-command-init : goal.loop-command-init
@@ -101,9 +87,8 @@ loop-command-init g c =
     let n = c.args.client in
     let all : c.args.commands ≡ c.new-left.result = search rules in
     record {
-      goes = λ cs. subst (λ (xs : List Command). Goes old old (of_client n c.args.commands ++ cs) (of_client n xs ++ cs)) all
+      goes = λ cs. subst (λ (xs : List Command). Goes g.D.Disk.law old old (of_client n c.args.commands ++ cs) (of_client n xs ++ cs)) all
           (goes_nowhere old (of_client n c.args.commands ++ cs));
       stepped = c.requires.stepped;
-      on = goes_on_still g.D.Disk.tells g.D.Disk.may_leave g.D.Disk.may_have_left g.D.Disk.moment g.D.Disk.faults
-          g.D.Disk.identity c.args.self.now.book;
+      on = goes_on_still g.D.Disk.law c.args.self.now.book;
     }

@@ -5,11 +5,10 @@ use Rattle.sc_top.proofs.run.Run.make_all.Given as goal
 
 abbrev pub invariant-loop-command : goal.invariant-loop-command
 invariant-loop-command g l = record {
-  goes : (cs : List Made) → Goes (run_of l.fn.self.book l.fn.self.left) (run_of l.self.book l.self.left)
+  goes : (cs : List Made) → Goes g.D.Disk.law (run_of l.fn.self.book l.fn.self.left) (run_of l.self.book l.self.left)
       (of_client l.client l.fn.commands ++ cs) (of_client l.client l.left ++ cs);
   stepped : HasStepped (run_of l.self.book l.self.left);
-  on : GoesOn g.D.Disk.tells g.D.Disk.may_leave g.D.Disk.may_have_left g.D.Disk.moment g.D.Disk.faults g.D.Disk.identity
-      l.fn.self.book l.self.book;
+  on : GoesOn g.D.Disk.law l.fn.self.book l.self.book;
 }
 
 abbrev pub decreases-loop-command : goal.decreases-loop-command

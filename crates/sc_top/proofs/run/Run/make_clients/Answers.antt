@@ -13,11 +13,10 @@ loop-commands-init g c =
     let old = run_of c.args.self.now.book c.args.self.now.left in
     let all : c.args.clients ≡ into_iter_items c.into_iter-commands-iterator.result = search rules in
     record {
-      goes = λ cs. subst (λ (xs : List (List Command)). Goes old old (of_clients 1 c.args.clients ++ cs) (of_clients 1 xs ++ cs)) all
+      goes = λ cs. subst (λ (xs : List (List Command)). Goes g.D.Disk.law old old (of_clients 1 c.args.clients ++ cs) (of_clients 1 xs ++ cs)) all
           (goes_nowhere old (of_clients 1 c.args.clients ++ cs));
       stepped = c.requires.stepped;
-      on = goes_on_still g.D.Disk.tells g.D.Disk.may_leave g.D.Disk.may_have_left g.D.Disk.moment g.D.Disk.faults
-          g.D.Disk.identity c.args.self.now.book;
+      on = goes_on_still g.D.Disk.law c.args.self.now.book;
     }
 
 pub loop-commands-preserved : goal.loop-commands-preserved
@@ -41,10 +40,9 @@ loop-commands-preserved g c =
     ∙ append_assoc (of_client n first) (of_clients (n + 1) rest) cs in
     record {
       goes = λ cs. goes_further old cur new (all cs) (of_client n first ++ left cs) (left cs)
-          (subst (Goes old cur (all cs)) (here cs) (at.goes cs)) (made.goes (left cs));
+          (subst (Goes g.D.Disk.law old cur (all cs)) (here cs) (at.goes cs)) (made.goes (left cs));
       stepped = made.stepped;
-      on = goes_on_further g.D.Disk.tells g.D.Disk.may_leave g.D.Disk.may_have_left g.D.Disk.moment g.D.Disk.faults
-          g.D.Disk.identity old.book cur.book new.book at.on made.goes_on;
+      on = goes_on_further g.D.Disk.law old.book cur.book new.book at.on made.goes_on;
     }
 
 pub returns-in_err-client-clause-stops : goal.returns-in_err-client-clause-stops
@@ -54,9 +52,8 @@ returns-in_err-client-clause-stops g c =
     let cur = run_of c.loop-commands.self.book c.loop-commands.self.left in
     let at = c.loop-commands.invariant in
     let left = of_clients (c.loop-commands.client + 1) (into_iter_items c.loop-commands.commands-iterator) in
-    rw (p.1, p.2) (λ cs. stops_further g.D.Disk.tells g.D.Disk.may_leave g.D.Disk.may_have_left g.D.Disk.moment
-    g.D.Disk.faults g.D.Disk.identity NoMemory old cur cur (of_clients 1 c.args.clients ++ cs) (left ++ cs) (at.goes cs) at.on
-    (stops_at_once g.D.Disk.tells g.D.Disk.may_leave g.D.Disk.may_have_left g.D.Disk.moment g.D.Disk.faults cur (left ++ cs)))
+    rw (p.1, p.2) (λ cs. stops_further g.D.Disk.law NoMemory old cur cur (of_clients 1 c.args.clients ++ cs) (left ++ cs) (at.goes cs) at.on
+    (stops_at_once g.D.Disk.law cur (left ++ cs)))
 
 pub returns-in_err-make_all-clause-stops : goal.returns-in_err-make_all-clause-stops
 returns-in_err-make_all-clause-stops g c =
@@ -77,6 +74,5 @@ returns-in_err-make_all-clause-stops g c =
     λ cs. ap (λ (xs : List (List Command)). of_clients number xs ++ cs) c.in-Some.ensures.steps.0
     ∙ ap (λ (k : ℕ). of_clients k (first ∷ rest) ++ cs) (sym one_more)
     ∙ append_assoc (of_client n first) (of_clients (n + 1) rest) cs in
-    rw (p.1, p.2) (λ cs. stops_further g.D.Disk.tells g.D.Disk.may_leave g.D.Disk.may_have_left g.D.Disk.moment
-    g.D.Disk.faults g.D.Disk.identity c.in_err-make_all.field-0.0 old cur new (all cs) (of_client n first ++ left cs)
-    (subst (Goes old cur (all cs)) (here cs) (at.goes cs)) at.on (c.in_err-make_all.ensures.stops (left cs)))
+    rw (p.1, p.2) (λ cs. stops_further g.D.Disk.law c.in_err-make_all.field-0.0 old cur new (all cs) (of_client n first ++ left cs)
+    (subst (Goes g.D.Disk.law old cur (all cs)) (here cs) (at.goes cs)) at.on (c.in_err-make_all.ensures.stops (left cs)))

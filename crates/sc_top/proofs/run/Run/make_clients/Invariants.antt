@@ -6,9 +6,8 @@ use Rattle.sc_top.proofs.run.Run.make_clients.Given as goal
 
 abbrev pub invariant-loop-commands : goal.invariant-loop-commands
 invariant-loop-commands g l = record {
-  goes : (cs : List Made) → Goes (run_of l.fn.self.book l.fn.self.left) (run_of l.self.book l.self.left)
+  goes : (cs : List Made) → Goes g.D.Disk.law (run_of l.fn.self.book l.fn.self.left) (run_of l.self.book l.self.left)
       (of_clients 1 l.fn.clients ++ cs) (of_clients (l.client + 1) (into_iter_items l.commands-iterator) ++ cs);
   stepped : HasStepped (run_of l.self.book l.self.left);
-  on : GoesOn g.D.Disk.tells g.D.Disk.may_leave g.D.Disk.may_have_left g.D.Disk.moment g.D.Disk.faults g.D.Disk.identity
-      l.fn.self.book l.self.book;
+  on : GoesOn g.D.Disk.law l.fn.self.book l.self.book;
 }

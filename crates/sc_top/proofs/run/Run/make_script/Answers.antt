@@ -13,8 +13,7 @@ returns-in_err-make_all-clause-stops g c =
     let old = run_of c.args.self.now.book c.args.self.now.left in
     let stepped = run_of c.step_all.new.self.book c.step_all.new.self.left in
     let new = run_of c.make_all.new.self.book c.make_all.new.self.left in
-    rw (p.1, p.2) (stops_further g.D.Disk.tells g.D.Disk.may_leave g.D.Disk.may_have_left g.D.Disk.moment g.D.Disk.faults
-    g.D.Disk.identity c.in_err-make_all.field-0.0 old stepped new all all (c.in_ok-step_all.ensures.goes all)
+    rw (p.1, p.2) (stops_further g.D.Disk.law c.in_err-make_all.field-0.0 old stepped new all all (c.in_ok-step_all.ensures.goes all)
     c.in_ok-step_all.ensures.goes_on (c.in_err-make_all.ensures.stops later))
 
 pub returns-clause-goes : goal.returns-clause-goes
@@ -25,10 +24,10 @@ returns-clause-goes g c =
     let stepped = run_of c.step_all.new.self.book c.step_all.new.self.left in
     let set_up = run_of c.make_all.new.self.book c.make_all.new.self.left in
     let done = run_of c.make_clients.new.self.book c.make_clients.new.self.left in
-    let so_far : Goes old set_up all later =
+    let so_far : Goes g.D.Disk.law old set_up all later =
     goes_further old stepped set_up all all later (c.in_ok-step_all.ensures.goes all) (c.in_ok-make_all.ensures.goes later) in
     on_ok_map c.make_clients.result _ _ (λ goes. goes_further old set_up done all later [] so_far
-    (subst (λ cs. Goes set_up done cs []) (append-nil later) (goes []))) c.make_clients.ensures.goes
+    (subst (λ cs. Goes g.D.Disk.law set_up done cs []) (append-nil later) (goes []))) c.make_clients.ensures.goes
 
 pub returns-clause-stops : goal.returns-clause-stops
 returns-clause-stops g c =
@@ -38,15 +37,10 @@ returns-clause-stops g c =
     let stepped = run_of c.step_all.new.self.book c.step_all.new.self.left in
     let set_up = run_of c.make_all.new.self.book c.make_all.new.self.left in
     let done = run_of c.make_clients.new.self.book c.make_clients.new.self.left in
-    let T = g.D.Disk.tells in
-    let L = g.D.Disk.may_leave in
-    let S = g.D.Disk.may_have_left in
-    let M = g.D.Disk.moment in
-    let F = g.D.Disk.faults in
-    let I = g.D.Disk.identity in
-    let so_far : Goes old set_up all later =
+    let law = g.D.Disk.law in
+    let so_far : Goes g.D.Disk.law old set_up all later =
     goes_further old stepped set_up all all later (c.in_ok-step_all.ensures.goes all) (c.in_ok-make_all.ensures.goes later) in
-    let on = goes_on_further T L S M F I old.book stepped.book set_up.book c.in_ok-step_all.ensures.goes_on
+    let on = goes_on_further law old.book stepped.book set_up.book c.in_ok-step_all.ensures.goes_on
     c.in_ok-make_all.ensures.goes_on in
-    if_err_map c.make_clients.result _ _ (λ fault stops. stops_further T L S M F I fault old set_up done all later so_far on
-    (subst (λ cs. Stops T L S M F fault set_up done cs) (append-nil later) (stops []))) c.make_clients.ensures.stops
+    if_err_map c.make_clients.result _ _ (λ fault stops. stops_further law fault old set_up done all later so_far on
+    (subst (λ cs. Stops law fault set_up done cs) (append-nil later) (stops []))) c.make_clients.ensures.stops

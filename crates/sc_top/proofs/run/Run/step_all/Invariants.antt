@@ -5,9 +5,8 @@ use Rattle.sc_top.proofs.run.Run.step_all.Given as goal
 
 abbrev pub invariant-loop-self : goal.invariant-loop-self
 invariant-loop-self g l = record {
-  goes : (cs : List Made) → Goes (run_of l.initial.self.book l.initial.self.left) (run_of l.self.book l.self.left) cs cs;
-  on : GoesOn g.D.Disk.tells g.D.Disk.may_leave g.D.Disk.may_have_left g.D.Disk.moment g.D.Disk.faults g.D.Disk.identity
-      l.initial.self.book l.self.book;
+  goes : (cs : List Made) → Goes g.D.Disk.law (run_of l.initial.self.book l.initial.self.left) (run_of l.self.book l.self.left) cs cs;
+  on : GoesOn g.D.Disk.law l.initial.self.book l.self.book;
 }
 
 abbrev pub decreases-loop-self : goal.decreases-loop-self
