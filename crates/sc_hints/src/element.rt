@@ -112,25 +112,61 @@ fn is_tagged(value: &Value<'_>, tag: &str) -> bool {
     }
 }
 
-/// The ids of all states and histories of a chart, as deep as a chart may be.
+/// The ids of all states and histories of a chart.
 pub(crate) fn ids<'a>(alloc: Global, root: &Value<'a>) -> Result<Vec<&'a str>, NoMemory> {
     let mut ids = Vec::new(alloc);
-    put_ids(root, LEVEL_LIMIT, &mut ids)?;
+    for element in elements(alloc, root)? {
+        if let Some("state" | "parallel" | "final" | "history") = text_of(element, "tag") {
+            if let Some(id) = text_of(element, "id") {
+                ids.push(id)?;
+            }
+        }
+    }
     Ok(ids)
 }
 
-fn put_ids<'a>(value: &Value<'a>, levels: usize, ids: &mut Vec<&'a str>) -> Result<(), NoMemory> {
+/// The event descriptors of all transitions of a chart.
+pub(crate) fn descriptors<'a>(alloc: Global, root: &Value<'a>) -> Result<Vec<&'a str>, NoMemory> {
+    let mut descriptors = Vec::new(alloc);
+    for element in elements(alloc, root)? {
+        if is_tagged(element, "transition") {
+            for descriptor in text_of(element, "event").unwrap_or("").split_whitespace() {
+                descriptors.push(descriptor)?;
+            }
+        }
+    }
+    Ok(descriptors)
+}
+
+/// Whether an invoke of a chart forwards events.
+pub(crate) fn forwards(alloc: Global, root: &Value<'_>) -> Result<bool, NoMemory> {
+    let elements = elements(alloc, root)?;
+    Ok(
+        elements
+            .iter()
+            .any(|element| text_of(element, "autoforward") == Some("true")),
+    )
+}
+
+/// All elements of a chart, as deep as a chart may be.
+fn elements<'v, 'a>(alloc: Global, root: &'v Value<'a>) -> Result<Vec<&'v Value<'a>>, NoMemory> {
+    let mut elements = Vec::new(alloc);
+    put_elements(root, LEVEL_LIMIT, &mut elements)?;
+    Ok(elements)
+}
+
+fn put_elements<'v, 'a>(
+    value: &'v Value<'a>,
+    levels: usize,
+    elements: &mut Vec<&'v Value<'a>>,
+) -> Result<(), NoMemory> {
     if levels == 0 {
         return Ok(());
     }
-    if let Some("state" | "parallel" | "final" | "history") = text_of(value, "tag") {
-        if let Some(id) = text_of(value, "id") {
-            ids.push(id)?;
-        }
-    }
+    elements.push(value)?;
     if let Some(Value::Array(kids)) = value.get("kids") {
         for kid in kids {
-            put_ids(kid, levels - 1, ids)?;
+            put_elements(kid, levels - 1, elements)?;
         }
     }
     Ok(())

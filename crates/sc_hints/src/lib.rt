@@ -4,6 +4,7 @@
 #![tactic(auto)]
 
 mod chart;
+mod commands;
 mod element;
 mod expression;
 mod fault;

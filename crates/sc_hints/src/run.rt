@@ -1,3 +1,4 @@
+use crate::commands::commands_hint;
 use sc_base::NoMemory;
 use sc_words::{Asked, read_words};
 use std::alloc::Global;
@@ -6,17 +7,20 @@ const EARLY_TICKS: &str =
     "all commands of the set-up were made before any step, its ticks too; with --workers 0, or \
     behind a line client, steps come between them";
 
-/// What surprises in a script that was run with workers: its ticks come before the steps of what it posts, unless a
-/// client makes them.
+/// What surprises in a script that was run: a command that is refused, or an event that no transition takes; and where
+/// there is none, with workers, ticks that come before the steps of what it posts, unless a client makes them.
 pub fn run_hint(
     alloc: Global,
     words: &[String],
     script: &[u8],
 ) -> Result<Option<String>, NoMemory> {
     match read_words(alloc, words)? {
-        Some(Asked::Run { workers, .. }) if workers > 0 && ticks_in_set_up(script) => {
-            Ok(Some(String::from_str(alloc, EARLY_TICKS)?))
-        }
+        Some(Asked::Run { workers, .. }) => match commands_hint(alloc, script)? {
+            None if workers > 0 && ticks_in_set_up(script) => {
+                Ok(Some(String::from_str(alloc, EARLY_TICKS)?))
+            }
+            hint => Ok(hint),
+        },
         _ => Ok(None),
     }
 }

@@ -44,7 +44,11 @@ fn the_element_is_told(rt: HostRuntime) -> Result<(), Fail> {
             "state 'a'|'initail'|'initial'",
         ),
         ("{\"tag\":\"scxml\",\"limit\":\"01\"}", "'limit'|'01'"),
-        ("{\"tag\":\"scxml\",\"values\":\"2\"}", "'values'|'2'"),
+        (
+            "{\"tag\":\"scxml\",\"values\":\"3\"}",
+            "'values'|'3'|to be 1",
+        ),
+        ("{\"tag\":\"scxml\",\"version\":\"1\"}", "'version'|1.0"),
         ("{\"tag\":\"scxml\",\"kids\":{}}", "'kids'|array"),
         ("{\"tag\":\"raise\"}", "raise|'event'|missing"),
         ("{\"tag\":\"param\",\"name\":\"a\"}", "'expr'|'location'"),
