@@ -1,6 +1,7 @@
 use crate::element::element_at;
 use crate::fault::told;
-use crate::json_text::{end_of_json, from_element};
+use crate::json_hint::json_hint;
+use crate::json_text::from_element;
 use crate::one_line::on_one_line;
 use crate::place::Place;
 use json::{Scratch, Value};
@@ -22,7 +23,7 @@ pub(crate) struct Placed<'t> {
 }
 
 impl Placed<'_> {
-    fn place(self, offset: usize) -> Place {
+    pub(crate) fn place(self, offset: usize) -> Place {
         self.start.of(self.text.as_bytes(), offset)
     }
 }
@@ -113,47 +114,4 @@ fn told_of(
         }
         _ => Ok(String::from_str(alloc, "the chart has a fault")?),
     }
-}
-
-/// Why a text is no JSON.
-fn json_hint(alloc: Global, chart: Placed<'_>) -> Result<String, NoMemory> {
-    let text = chart.text;
-    if text.trim().is_empty() {
-        return Ok(String::from_str(
-            alloc,
-            "the text is empty: the chart is read from standard input, as in charthost check < CHART",
-        )?);
-    }
-    let offset = end_of_json(alloc, text)?;
-    let place = chart.place(offset);
-    let before = text.get(..offset).unwrap_or("").trim_end();
-    let rest = text.get(offset..).unwrap_or("");
-    let tip = json_tip(before, rest);
-    Ok(format!(in alloc; "{place}: here the text is no JSON: {tip}")?)
-}
-
-/// What to change in a text of which the first part is the front of a JSON value, and the rest does not go on with it.
-fn json_tip(before: &str, rest: &str) -> &'static str {
-    match rest.chars().next() {
-        None => "it ends before each { and [ has its } and ]",
-        Some(_) if is_whole(before) => "a chart is one JSON value, and nothing stands behind it",
-        Some('<') => "XML is not read, tools/from-scxml makes JSON of it",
-        Some('c') if before.is_empty() && rest.starts_with("chart ") => {
-            "this is a line chart NAME JSON of a script, and check reads the JSON alone"
-        }
-        Some('\'') => "texts stand in double quotes",
-        Some('/' | '#') => "JSON has no comments",
-        Some('}' | ']') if before.ends_with(',') => "take out the comma in front of it",
-        Some('"') if before.ends_with(['"', '}', ']']) => "a comma is missing in front of it",
-        Some('{' | '[') if before.ends_with(['}', ']']) => "a comma is missing in front of it",
-        Some(_) =>
-            "names and texts stand in double quotes, with a : behind a name and a comma between members",
-    }
-}
-
-/// Whether each bracket is closed.
-fn is_whole(before: &str) -> bool {
-    before.ends_with('}')
-        && before.matches('{').count() == before.matches('}').count()
-        && before.matches('[').count() == before.matches(']').count()
 }

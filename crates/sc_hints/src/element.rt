@@ -106,8 +106,12 @@ fn text_of<'a>(value: &Value<'a>, name: &str) -> Option<&'a str> {
 }
 
 fn is_tagged(value: &Value<'_>, tag: &str) -> bool {
-    match text_of(value, "tag") {
-        Some(text) => text == tag,
+    is_text(value, "tag", tag)
+}
+
+fn is_text(value: &Value<'_>, name: &str, wanted: &str) -> bool {
+    match text_of(value, name) {
+        Some(text) => text == wanted,
         None => false,
     }
 }
@@ -144,7 +148,7 @@ pub(crate) fn forwards(alloc: Global, root: &Value<'_>) -> Result<bool, NoMemory
     Ok(
         elements
             .iter()
-            .any(|element| text_of(element, "autoforward") == Some("true")),
+            .any(|element| is_text(element, "autoforward", "true")),
     )
 }
 

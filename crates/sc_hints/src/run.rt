@@ -1,4 +1,7 @@
-use crate::commands::commands_hint;
+use crate::commands::commands;
+use crate::one_line::on_one_line;
+use crate::refused::refused_hint;
+use crate::unmatched::unmatched_hint;
 use sc_base::NoMemory;
 use sc_words::{Asked, read_words};
 use std::alloc::Global;
@@ -22,6 +25,22 @@ pub fn run_hint(
             hint => Ok(hint),
         },
         _ => Ok(None),
+    }
+}
+
+/// What is told of the commands of a script.
+fn commands_hint(alloc: Global, script: &[u8]) -> Result<Option<String>, NoMemory> {
+    let Some(commands) = commands(alloc, script)? else {
+        return Ok(None);
+    };
+    let commands = commands.as_slice();
+    let hint = match refused_hint(alloc, commands)? {
+        Some(hint) => Some(hint),
+        None => unmatched_hint(alloc, commands)?,
+    };
+    match hint {
+        Some(hint) => Ok(Some(on_one_line(alloc, hint.as_str())?)),
+        None => Ok(None),
     }
 }
 

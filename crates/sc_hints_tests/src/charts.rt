@@ -22,7 +22,22 @@ fn the_place_of_what_is_no_json_is_told(rt: HostRuntime) -> Result<(), Fail> {
         ),
         ("{\"tag\":\"scxml\" // a\n}", "line 1, column 16|comments"),
         ("{\"tag\":\"scxml\"} {}", "line 1, column 17|nothing"),
-        ("{\"tag\":\"scxml\"", "line 1, column 15"),
+        (
+            "{\"tag\":\"scxml\"\n",
+            "line 1, column 15|the { of line 1, column 1",
+        ),
+        (
+            "{\"kids\":[\n{\"tag\":\"log\"]}",
+            "line 2, column 13|this ]|the { of line 2, column 1",
+        ),
+        (
+            "{\"kids\":[{\"tag\":\"]\"}},{\"tag\":\"log\"}]}",
+            "line 1, column 21|this }|the [ of line 1, column 9",
+        ),
+        ("{\"tag\":\"a\nb\"}", "line 1, column 8|line feed"),
+        ("{\"tag\":\"a\\c\"}", "line 1, column 8|\\\\"),
+        ("{\"tag\":\"scxml}", "line 1, column 8|no quote"),
+        ("{\"tag\" \"scxml\"}", "line 1, column 8|a :"),
     ];
     for (text, pieces) in rows {
         assert!(rt; is_told(rt.alloc(), text, pieces)?, "{text}");
@@ -89,6 +104,11 @@ fn what_is_not_legal_is_told(rt: HostRuntime) -> Result<(), Fail> {
         (
             "{\"tag\":\"scxml\",\"kids\":[{\"tag\":\"state\",\"kids\":[{\"tag\":\"log\"}]}]}",
             "log|may not stand in state",
+        ),
+        (
+            "{\"tag\":\"scxml\",\"kids\":[{\"tag\":\"state\",\"kids\":[{\"tag\":\"onentry\",\"kids\":[\
+            {\"tag\":\"log\",\"kids\":[{\"tag\":\"raise\",\"event\":\"e\"}]}]}]}]}",
+            "raise|may not stand in log|no child elements",
         ),
     ];
     for (text, pieces) in rows {
