@@ -53,7 +53,7 @@ pub(crate) fn commands(alloc: Global, script: &[u8]) -> Result<Option<Vec<Comman
     };
     let mut commands = Vec::new(alloc);
     let mut number = 0u32;
-    for line in text.split('\n').take(LINE_LIMIT + 1) {
+    for line in text.lines().take(LINE_LIMIT + 1) {
         number = number.saturating_add(1);
         commands.push(Command::of(Line {
             number,

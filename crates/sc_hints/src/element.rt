@@ -144,12 +144,11 @@ pub(crate) fn descriptors<'a>(alloc: Global, root: &Value<'a>) -> Result<Vec<&'a
 
 /// Whether an invoke of a chart forwards events.
 pub(crate) fn forwards(alloc: Global, root: &Value<'_>) -> Result<bool, NoMemory> {
-    let elements = elements(alloc, root)?;
-    Ok(
-        elements
-            .iter()
-            .any(|element| is_text(element, "autoforward", "true")),
-    )
+    let mut is_found = false;
+    for element in elements(alloc, root)? {
+        is_found = is_found || is_text(element, "autoforward", "true");
+    }
+    Ok(is_found)
 }
 
 /// All elements of a chart, as deep as a chart may be.
