@@ -32,7 +32,7 @@ const ATTRIBUTES: [(&str, &str); 18] = [
 const CONTENT: &str = "raise if foreach log assign send cancel";
 
 /// The child elements that each element may have.
-const KIDS: [(&str, &str); 15] = [
+const KIDS: [(&str, &str); 16] = [
     ("scxml", "datamodel state parallel final"),
     (
         "state",
@@ -54,10 +54,11 @@ const KIDS: [(&str, &str); 15] = [
     ("invoke", "param finalize"),
     ("if", "raise if foreach log assign send cancel elseif else"),
     ("foreach", CONTENT),
+    ("send", "content param"),
 ];
 
 /// The elements that have no child elements.
-const CHILDLESS: &str = "data content param raise elseif else log assign send cancel";
+const CHILDLESS: &str = "data content param raise elseif else log assign cancel";
 
 /// What the text of attributes has to be, at the elements of a tag or at all others.
 const FORMS: [(&str, &str, &str); 23] = [

@@ -110,6 +110,11 @@ fn what_is_not_legal_is_told(rt: HostRuntime) -> Result<(), Fail> {
             {\"tag\":\"log\",\"kids\":[{\"tag\":\"raise\",\"event\":\"e\"}]}]}]}]}",
             "raise|may not stand in log|no child elements",
         ),
+        (
+            "{\"tag\":\"scxml\",\"kids\":[{\"tag\":\"state\",\"kids\":[{\"tag\":\"onexit\",\"kids\":[\
+            {\"tag\":\"send\",\"event\":\"e\",\"kids\":[{\"tag\":\"log\"}]}]}]}]}",
+            "log|may not stand in send|content param",
+        ),
     ];
     for (text, pieces) in rows {
         assert!(rt; is_told(rt.alloc(), text, pieces)?, "{text}");
