@@ -142,13 +142,20 @@ pub(crate) fn descriptors<'a>(alloc: Global, root: &Value<'a>) -> Result<Vec<&'a
     Ok(descriptors)
 }
 
-/// Whether an invoke of a chart forwards events.
-pub(crate) fn forwards(alloc: Global, root: &Value<'_>) -> Result<bool, NoMemory> {
+/// Whether an event that no descriptor matches may still count: an invoke forwards it, or the condition of an eventless
+/// transition looks at it.
+pub(crate) fn heeds_all(alloc: Global, root: &Value<'_>) -> Result<bool, NoMemory> {
     let mut is_found = false;
     for element in elements(alloc, root)? {
-        is_found = is_found || is_text(element, "autoforward", "true");
+        is_found = is_found || is_text(element, "autoforward", "true") || looks_at_events(element);
     }
     Ok(is_found)
+}
+
+fn looks_at_events(value: &Value<'_>) -> bool {
+    is_tagged(value, "transition")
+        && value.get("event").is_none()
+        && text_of(value, "cond").unwrap_or("").contains("_event")
 }
 
 /// All elements of a chart, as deep as a chart may be.

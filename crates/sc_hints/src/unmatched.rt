@@ -1,5 +1,5 @@
 use crate::commands::{CHART, Command, SESSION};
-use crate::element::{descriptors, forwards};
+use crate::element::{descriptors, heeds_all};
 use crate::nearest::nearest_told;
 use json::{Scratch, Value};
 use sc_base::NoMemory;
@@ -46,7 +46,7 @@ fn posts<'s>(alloc: Global, commands: &[Command<'s>]) -> Result<Vec<Post<'s>>, N
     Ok(posts)
 }
 
-/// The same of the chart that a line installs. One that forwards events may have them for others.
+/// The same of the chart that a line installs.
 fn hint_of_chart(
     alloc: Global,
     install: &Command<'_>,
@@ -54,9 +54,9 @@ fn hint_of_chart(
 ) -> Result<Option<String>, NoMemory> {
     let mut scratch = Scratch::new(alloc);
     match Value::parse(alloc, install.chart().text, &mut scratch) {
-        Ok(root) if !forwards(alloc, &root)? => {
+        Ok(root) if !heeds_all(alloc, &root)? => {
             let descriptors = descriptors(alloc, &root)?;
-            told(alloc, install.name.word, posts, descriptors.as_slice())
+            told(alloc, install, posts, descriptors.as_slice())
         }
         _ => Ok(None),
     }
@@ -64,10 +64,11 @@ fn hint_of_chart(
 
 fn told(
     alloc: Global,
-    chart: &str,
+    install: &Command<'_>,
     posts: &[Post<'_>],
     descriptors: &[&str],
 ) -> Result<Option<String>, NoMemory> {
+    let chart = install.name.word;
     let found = posts.iter().find(|post| {
         post.chart == chart && !is_matched(descriptors, post.command.object.word)
     });
@@ -78,7 +79,8 @@ fn told(
     let place = command.place(event);
     let near = nearest_told(alloc, event.word, descriptors)?;
     Ok(Some(format!(in alloc;
-        "{place}: the chart '{chart}' has no transition for the event '{}'{near}; so it changes nothing",
+        "{place}: the chart '{chart}' of line {} has no transition for the event '{}'{near}; so it changes nothing",
+        install.line_number(),
         event.word
     )?))
 }

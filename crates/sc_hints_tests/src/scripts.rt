@@ -83,6 +83,8 @@ fn nothing_is_told_of_what_may_be_meant(rt: HostRuntime) -> Result<(), Fail> {
         "client\npost s push\nclient\nstart s door",
         "chart m {\"tag\":\"scxml\",\"kids\":[{\"tag\":\"state\",\"kids\":[{\"tag\":\"invoke\",\"src\":\"door\",\
          \"autoforward\":\"true\"}]}]}\nstart s m\npost s push",
+        "chart m {\"tag\":\"scxml\",\"kids\":[{\"tag\":\"state\",\"kids\":[{\"tag\":\"transition\",\
+         \"cond\":\"_event.name == 'push'\"}]}]}\nstart s m\npost s push",
         "chart m {\"tag\":\"scxml\",\"kids\":[{\"tag\":\"state\",\"kids\":[{\"tag\":\"transition\",\"event\":\"*\"}\
          ]}]}\nstart s m\npost s push",
     ];
