@@ -1,21 +1,59 @@
 use crate::element::element_at;
 use crate::fault::told;
-use crate::json_text::{end_of_json, from_element};
+use crate::json_hint::json_hint;
+use crate::json_text::from_element;
 use crate::one_line::on_one_line;
 use crate::place::Place;
 use json::{Scratch, Value};
 use sc_base::NoMemory;
 use sc_chart_json::read_chart;
 use sc_types::faults::{NOT_JSON, TOO_LARGE};
-use sc_types::{ChartFault, ChartRefusal};
+use sc_types::{CHART_TEXT_LIMIT, ChartFault, ChartRefusal};
 use sc_valid::validate;
 use std::alloc::Global;
 
+const TOO_LARGE_TOLD: &str =
+    "the chart has more than 1,048,576 bytes: let a state invoke a chart of its own";
+
+/// A text, and where it begins.
+#[derive(Clone, Copy)]
+pub(crate) struct Placed<'t> {
+    pub(crate) text: &'t str,
+    pub(crate) start: Place,
+}
+
+impl Placed<'_> {
+    pub(crate) fn place(self, offset: usize) -> Place {
+        self.start.of(self.text.as_bytes(), offset)
+    }
+}
+
 /// What is wrong with a text that is no legal chart, and where; `None` where it is one.
 pub fn chart_hint(alloc: Global, text: &[u8]) -> Result<Option<String>, NoMemory> {
-    match fault_of(alloc, text)? {
+    match std::str::from_utf8(text) {
+        Ok(text) => {
+            let start = Place::START;
+            placed_chart_hint(alloc, Placed { text, start })
+        }
+        Err(_) if text.len() > CHART_TEXT_LIMIT => Ok(Some(String::from_str(
+            alloc,
+            TOO_LARGE_TOLD,
+        )?)),
+        Err(error) => {
+            let place = Place::START.of(text, error.valid_up_to());
+            Ok(Some(format!(in alloc; "{place}: here the text is not UTF-8: save it as UTF-8")?))
+        }
+    }
+}
+
+/// The same of a text that begins anywhere.
+pub(crate) fn placed_chart_hint(
+    alloc: Global,
+    chart: Placed<'_>,
+) -> Result<Option<String>, NoMemory> {
+    match fault_of(alloc, chart.text.as_bytes())? {
         Some(fault) => {
-            let sentence = fault_hint(alloc, text, &fault)?;
+            let sentence = fault_hint(alloc, chart, &fault)?;
             Ok(Some(on_one_line(alloc, sentence.as_str())?))
         }
         None => Ok(None),
@@ -40,88 +78,40 @@ fn fault_in(refusal: ChartRefusal) -> Result<Option<ChartFault>, NoMemory> {
     }
 }
 
-fn fault_hint(alloc: Global, text: &[u8], fault: &ChartFault) -> Result<String, NoMemory> {
-    if fault.number == TOO_LARGE {
-        return Ok(String::from_str(
-            alloc,
-            "the chart has more than 1,048,576 bytes: let a state invoke a chart of its own",
-        )?);
-    }
-    match std::str::from_utf8(text) {
-        Ok(text) if fault.number == NOT_JSON => json_hint(alloc, text),
-        Ok(text) => element_hint(alloc, text, fault),
-        Err(error) => {
-            let place = Place::of(text, error.valid_up_to());
-            Ok(format!(in alloc; "{place}: here the text is not UTF-8: save it as UTF-8")?)
-        }
+fn fault_hint(alloc: Global, chart: Placed<'_>, fault: &ChartFault) -> Result<String, NoMemory> {
+    match fault.number {
+        TOO_LARGE => Ok(String::from_str(alloc, TOO_LARGE_TOLD)?),
+        NOT_JSON => json_hint(alloc, chart),
+        _ => element_hint(alloc, chart, fault),
     }
 }
 
 /// What is wrong with an element, behind its place and its name.
-fn element_hint(alloc: Global, text: &str, fault: &ChartFault) -> Result<String, NoMemory> {
+fn element_hint(alloc: Global, chart: Placed<'_>, fault: &ChartFault) -> Result<String, NoMemory> {
     let mut scratch = Scratch::new(alloc);
-    match Value::parse(alloc, text, &mut scratch) {
-        Ok(root) => told_of(alloc, text, fault, &root),
+    match Value::parse(alloc, chart.text, &mut scratch) {
+        Ok(root) => told_of(alloc, chart, fault, &root),
         Err(_) => Err(NoMemory),
     }
 }
 
 fn told_of(
     alloc: Global,
-    text: &str,
+    chart: Placed<'_>,
     fault: &ChartFault,
     root: &Value<'_>,
 ) -> Result<String, NoMemory> {
     let path = fault.path.slice();
-    match (element_at(root, path), from_element(alloc, text, path)?) {
+    match (
+        element_at(root, path),
+        from_element(alloc, chart.text, path)?,
+    ) {
         (Some(element), Some(rest)) => {
-            let place = Place::of(text.as_bytes(), text.len().saturating_sub(rest.len()));
+            let place = chart.place(chart.text.len().saturating_sub(rest.len()));
             let name = element.name(alloc)?;
             let sentence = told(alloc, fault, root, &element, rest)?;
             Ok(format!(in alloc; "{place}: {name}: {sentence}")?)
         }
         _ => Ok(String::from_str(alloc, "the chart has a fault")?),
     }
-}
-
-/// Why a text is no JSON.
-fn json_hint(alloc: Global, text: &str) -> Result<String, NoMemory> {
-    if text.trim().is_empty() {
-        return Ok(String::from_str(
-            alloc,
-            "the text is empty: the chart is read from standard input, as in charthost check < CHART",
-        )?);
-    }
-    let offset = end_of_json(alloc, text)?;
-    let place = Place::of(text.as_bytes(), offset);
-    let before = text.get(..offset).unwrap_or("").trim_end();
-    let rest = text.get(offset..).unwrap_or("");
-    let tip = json_tip(before, rest);
-    Ok(format!(in alloc; "{place}: here the text is no JSON: {tip}")?)
-}
-
-/// What to change in a text of which the first part is the front of a JSON value, and the rest does not go on with it.
-fn json_tip(before: &str, rest: &str) -> &'static str {
-    match rest.chars().next() {
-        None => "it ends before each { and [ has its } and ]",
-        Some(_) if is_whole(before) => "a chart is one JSON value, and nothing stands behind it",
-        Some('<') => "XML is not read, tools/from-scxml makes JSON of it",
-        Some('c') if before.is_empty() && rest.starts_with("chart ") => {
-            "this is a line chart NAME JSON of a script, and check reads the JSON alone"
-        }
-        Some('\'') => "texts stand in double quotes",
-        Some('/' | '#') => "JSON has no comments",
-        Some('}' | ']') if before.ends_with(',') => "take out the comma in front of it",
-        Some('"') if before.ends_with(['"', '}', ']']) => "a comma is missing in front of it",
-        Some('{' | '[') if before.ends_with(['}', ']']) => "a comma is missing in front of it",
-        Some(_) =>
-            "names and texts stand in double quotes, with a : behind a name and a comma between members",
-    }
-}
-
-/// Whether each bracket is closed.
-fn is_whole(before: &str) -> bool {
-    before.ends_with('}')
-        && before.matches('{').count() == before.matches('}').count()
-        && before.matches('[').count() == before.matches(']').count()
 }

@@ -106,31 +106,77 @@ fn text_of<'a>(value: &Value<'a>, name: &str) -> Option<&'a str> {
 }
 
 fn is_tagged(value: &Value<'_>, tag: &str) -> bool {
-    match text_of(value, "tag") {
-        Some(text) => text == tag,
+    is_text(value, "tag", tag)
+}
+
+fn is_text(value: &Value<'_>, name: &str, wanted: &str) -> bool {
+    match text_of(value, name) {
+        Some(text) => text == wanted,
         None => false,
     }
 }
 
-/// The ids of all states and histories of a chart, as deep as a chart may be.
+/// The ids of all states and histories of a chart.
 pub(crate) fn ids<'a>(alloc: Global, root: &Value<'a>) -> Result<Vec<&'a str>, NoMemory> {
     let mut ids = Vec::new(alloc);
-    put_ids(root, LEVEL_LIMIT, &mut ids)?;
+    for element in elements(alloc, root)? {
+        if let Some("state" | "parallel" | "final" | "history") = text_of(element, "tag") {
+            if let Some(id) = text_of(element, "id") {
+                ids.push(id)?;
+            }
+        }
+    }
     Ok(ids)
 }
 
-fn put_ids<'a>(value: &Value<'a>, levels: usize, ids: &mut Vec<&'a str>) -> Result<(), NoMemory> {
+/// The event descriptors of all transitions of a chart.
+pub(crate) fn descriptors<'a>(alloc: Global, root: &Value<'a>) -> Result<Vec<&'a str>, NoMemory> {
+    let mut descriptors = Vec::new(alloc);
+    for element in elements(alloc, root)? {
+        if is_tagged(element, "transition") {
+            for descriptor in text_of(element, "event").unwrap_or("").split_whitespace() {
+                descriptors.push(descriptor)?;
+            }
+        }
+    }
+    Ok(descriptors)
+}
+
+/// Whether an event that no descriptor matches may still count: an invoke forwards it, or the condition of an eventless
+/// transition looks at it.
+pub(crate) fn heeds_all(alloc: Global, root: &Value<'_>) -> Result<bool, NoMemory> {
+    let mut is_found = false;
+    for element in elements(alloc, root)? {
+        is_found = is_found || is_text(element, "autoforward", "true") || looks_at_events(element);
+    }
+    Ok(is_found)
+}
+
+fn looks_at_events(value: &Value<'_>) -> bool {
+    is_tagged(value, "transition")
+        && value.get("event").is_none()
+        && text_of(value, "cond").unwrap_or("").contains("_event")
+}
+
+/// All elements of a chart, as deep as a chart may be.
+fn elements<'v, 'a>(alloc: Global, root: &'v Value<'a>) -> Result<Vec<&'v Value<'a>>, NoMemory> {
+    let mut elements = Vec::new(alloc);
+    put_elements(root, LEVEL_LIMIT, &mut elements)?;
+    Ok(elements)
+}
+
+fn put_elements<'v, 'a>(
+    value: &'v Value<'a>,
+    levels: usize,
+    elements: &mut Vec<&'v Value<'a>>,
+) -> Result<(), NoMemory> {
     if levels == 0 {
         return Ok(());
     }
-    if let Some("state" | "parallel" | "final" | "history") = text_of(value, "tag") {
-        if let Some(id) = text_of(value, "id") {
-            ids.push(id)?;
-        }
-    }
+    elements.push(value)?;
     if let Some(Value::Array(kids)) = value.get("kids") {
         for kid in kids {
-            put_ids(kid, levels - 1, ids)?;
+            put_elements(kid, levels - 1, elements)?;
         }
     }
     Ok(())

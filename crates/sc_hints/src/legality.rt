@@ -104,6 +104,9 @@ fn child_told(alloc: Global, element: &Element<'_, '_>) -> Result<String, NoMemo
         Some(parent) if kids(parent).split(' ').any(|kid| kid == tag) => Ok(format!(in alloc;
             "there may be one {tag} less in {parent}, or not beside or within what is there"
         )?),
+        Some(parent) if kids(parent).is_empty() => Ok(format!(in alloc;
+            "it may not stand in {parent}, which has no child elements"
+        )?),
         Some(parent) => Ok(format!(in alloc;
             "it may not stand in {parent}, in which may stand: {}",
             kids(parent)

@@ -3,20 +3,25 @@
 //! here, so that a sentence speaks of the very fault that the program told.
 #![tactic(auto)]
 
+mod brackets;
 mod chart;
+mod commands;
 mod element;
 mod expression;
 mod fault;
 mod journal;
+mod json_hint;
 mod json_text;
 mod legality;
 mod nearest;
 mod one_line;
 mod pairs;
 mod place;
+mod refused;
 mod run;
 mod script;
 mod tables;
+mod unmatched;
 mod words;
 
 pub use chart::chart_hint;

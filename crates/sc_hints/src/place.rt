@@ -8,9 +8,12 @@ pub(crate) struct Place {
 }
 
 impl Place {
-    /// The place of an offset.
-    pub(crate) fn of(text: &[u8], offset: usize) -> Place {
-        let mut place = Place { line: 1, column: 1 };
+    /// Where a text begins.
+    pub(crate) const START: Place = Place { line: 1, column: 1 };
+
+    /// The place of an offset of a text that begins here.
+    pub(crate) fn of(self, text: &[u8], offset: usize) -> Place {
+        let mut place = self;
         for byte in &text[..offset.min(text.len())] {
             place = place.behind(*byte);
         }

@@ -1,3 +1,7 @@
+use crate::commands::commands;
+use crate::one_line::on_one_line;
+use crate::refused::refused_hint;
+use crate::unmatched::unmatched_hint;
 use sc_base::NoMemory;
 use sc_words::{Asked, read_words};
 use std::alloc::Global;
@@ -6,18 +10,37 @@ const EARLY_TICKS: &str =
     "all commands of the set-up were made before any step, its ticks too; with --workers 0, or \
     behind a line client, steps come between them";
 
-/// What surprises in a script that was run with workers: its ticks come before the steps of what it posts, unless a
-/// client makes them.
+/// What surprises in a script that was run: a command that is refused, or an event that no transition takes; and where
+/// there is none, with workers, ticks that come before the steps of what it posts, unless a client makes them.
 pub fn run_hint(
     alloc: Global,
     words: &[String],
     script: &[u8],
 ) -> Result<Option<String>, NoMemory> {
     match read_words(alloc, words)? {
-        Some(Asked::Run { workers, .. }) if workers > 0 && ticks_in_set_up(script) => {
-            Ok(Some(String::from_str(alloc, EARLY_TICKS)?))
-        }
+        Some(Asked::Run { workers, .. }) => match commands_hint(alloc, script)? {
+            None if workers > 0 && ticks_in_set_up(script) => {
+                Ok(Some(String::from_str(alloc, EARLY_TICKS)?))
+            }
+            hint => Ok(hint),
+        },
         _ => Ok(None),
+    }
+}
+
+/// What is told of the commands of a script.
+fn commands_hint(alloc: Global, script: &[u8]) -> Result<Option<String>, NoMemory> {
+    let Some(commands) = commands(alloc, script)? else {
+        return Ok(None);
+    };
+    let commands = commands.as_slice();
+    let hint = match refused_hint(alloc, commands)? {
+        Some(hint) => Some(hint),
+        None => unmatched_hint(alloc, commands)?,
+    };
+    match hint {
+        Some(hint) => Ok(Some(on_one_line(alloc, hint.as_str())?)),
+        None => Ok(None),
     }
 }
 

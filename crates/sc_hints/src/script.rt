@@ -67,7 +67,7 @@ fn bytes_of_line(text: &[u8], number: u32) -> &[u8] {
 /// A line of a script.
 #[derive(Clone, Copy)]
 pub(crate) struct Line<'a> {
-    number: u32,
+    pub(crate) number: u32,
     pub(crate) text: &'a str,
 }
 

@@ -32,7 +32,7 @@ const ATTRIBUTES: [(&str, &str); 18] = [
 const CONTENT: &str = "raise if foreach log assign send cancel";
 
 /// The child elements that each element may have.
-const KIDS: [(&str, &str); 15] = [
+const KIDS: [(&str, &str); 16] = [
     ("scxml", "datamodel state parallel final"),
     (
         "state",
@@ -54,13 +54,14 @@ const KIDS: [(&str, &str); 15] = [
     ("invoke", "param finalize"),
     ("if", "raise if foreach log assign send cancel elseif else"),
     ("foreach", CONTENT),
+    ("send", "content param"),
 ];
 
 /// The elements that have no child elements.
-const CHILDLESS: &str = "data content param raise elseif else log assign send cancel";
+const CHILDLESS: &str = "data content param raise elseif else log assign cancel";
 
 /// What the text of attributes has to be, at the elements of a tag or at all others.
-const FORMS: [(&str, &str, &str); 18] = [
+const FORMS: [(&str, &str, &str); 23] = [
     ("data", "id", PLAIN_NAME),
     ("param", "name", PLAIN_NAME),
     ("", "location item index idlocation", PLAIN_NAME),
@@ -80,6 +81,19 @@ const FORMS: [(&str, &str, &str); 18] = [
     ("", "autoforward", "false or true"),
     ("", "limit", "a number in digits, without a leading zero"),
     ("", "values", "1"),
+    ("", "version", "1.0"),
+    ("", "xmlns", "http://www.w3.org/2005/07/scxml"),
+    (
+        "",
+        "name label",
+        "a text of at most 4,096 bytes, without control characters but line feed and tab",
+    ),
+    ("", "type", "a text of at most 256 bytes"),
+    (
+        "",
+        "cond expr array eventexpr delayexpr sendidexpr",
+        "an expression",
+    ),
     ("", "namelist", SEVERAL),
     ("", "src", "the name of a chart, a word of at most 64 bytes"),
     ("", "delay", "a number with s or ms, as in 500ms or 1.5s"),

@@ -22,7 +22,22 @@ fn the_place_of_what_is_no_json_is_told(rt: HostRuntime) -> Result<(), Fail> {
         ),
         ("{\"tag\":\"scxml\" // a\n}", "line 1, column 16|comments"),
         ("{\"tag\":\"scxml\"} {}", "line 1, column 17|nothing"),
-        ("{\"tag\":\"scxml\"", "line 1, column 15"),
+        (
+            "{\"tag\":\"scxml\"\n",
+            "line 1, column 15|the { of line 1, column 1",
+        ),
+        (
+            "{\"kids\":[\n{\"tag\":\"log\"]}",
+            "line 2, column 13|this ]|the { of line 2, column 1",
+        ),
+        (
+            "{\"kids\":[{\"tag\":\"]\"}},{\"tag\":\"log\"}]}",
+            "line 1, column 21|this }|the [ of line 1, column 9",
+        ),
+        ("{\"tag\":\"a\nb\"}", "line 1, column 8|line feed"),
+        ("{\"tag\":\"a\\c\"}", "line 1, column 8|\\\\"),
+        ("{\"tag\":\"scxml}", "line 1, column 8|no quote"),
+        ("{\"tag\" \"scxml\"}", "line 1, column 8|a :"),
     ];
     for (text, pieces) in rows {
         assert!(rt; is_told(rt.alloc(), text, pieces)?, "{text}");
@@ -44,7 +59,11 @@ fn the_element_is_told(rt: HostRuntime) -> Result<(), Fail> {
             "state 'a'|'initail'|'initial'",
         ),
         ("{\"tag\":\"scxml\",\"limit\":\"01\"}", "'limit'|'01'"),
-        ("{\"tag\":\"scxml\",\"values\":\"2\"}", "'values'|'2'"),
+        (
+            "{\"tag\":\"scxml\",\"values\":\"3\"}",
+            "'values'|'3'|to be 1",
+        ),
+        ("{\"tag\":\"scxml\",\"version\":\"1\"}", "'version'|1.0"),
         ("{\"tag\":\"scxml\",\"kids\":{}}", "'kids'|array"),
         ("{\"tag\":\"raise\"}", "raise|'event'|missing"),
         ("{\"tag\":\"param\",\"name\":\"a\"}", "'expr'|'location'"),
@@ -85,6 +104,16 @@ fn what_is_not_legal_is_told(rt: HostRuntime) -> Result<(), Fail> {
         (
             "{\"tag\":\"scxml\",\"kids\":[{\"tag\":\"state\",\"kids\":[{\"tag\":\"log\"}]}]}",
             "log|may not stand in state",
+        ),
+        (
+            "{\"tag\":\"scxml\",\"kids\":[{\"tag\":\"state\",\"kids\":[{\"tag\":\"onentry\",\"kids\":[\
+            {\"tag\":\"log\",\"kids\":[{\"tag\":\"raise\",\"event\":\"e\"}]}]}]}]}",
+            "raise|may not stand in log|no child elements",
+        ),
+        (
+            "{\"tag\":\"scxml\",\"kids\":[{\"tag\":\"state\",\"kids\":[{\"tag\":\"onexit\",\"kids\":[\
+            {\"tag\":\"send\",\"event\":\"e\",\"kids\":[{\"tag\":\"log\"}]}]}]}]}",
+            "log|may not stand in send|content param",
         ),
     ];
     for (text, pieces) in rows {

@@ -35,6 +35,73 @@ fn the_faulty_word_is_told(rt: HostRuntime) -> Result<(), Fail> {
     Ok(())
 }
 
+const DOOR: &str =
+    "chart door {\"tag\":\"scxml\",\"kids\":[{\"tag\":\"state\",\"id\":\"shut\",\"kids\":[\
+    {\"tag\":\"transition\",\"event\":\"push pull.*\",\"target\":\"shut\"}]}]}\n";
+
+#[test]
+fn what_a_script_does_not_make_is_told(rt: HostRuntime) -> Result<(), Fail> {
+    let rows = [
+        ("start s dor", "line 2, column 9|'dor'|'door'"),
+        ("start s door\npost t push", "line 3, column 6|'t'"),
+        (
+            "start front door\npost fornt push",
+            "line 3, column 6|'fornt'|'front'",
+        ),
+        ("start s door\n  cancel t", "line 3, column 10|'t'"),
+        ("post s push\nstart s door", "line 2, column 6|'s'|line 3"),
+        ("start s/1 door", "line 2, column 7|'s/1'|/"),
+        ("chart door {}", "line 2, column 7|line 1|'door'"),
+        ("start s door\nstart s door", "line 3, column 7|line 2|'s'"),
+        ("chart m {\"tag\":1}", "line 2, column 9|'tag'|'m'"),
+        (
+            "chart m   {\"tag\":\"scxml\"}",
+            "line 2, column 11|scxml|'m'",
+        ),
+        (
+            "start s door\npost s pusch",
+            "line 3, column 8|'door'|'pusch'|'push'",
+        ),
+        ("start s door\npost s pushed", "line 3, column 8|'pushed'"),
+        ("client\nstart s door\nclient\npost t push", "line 5"),
+    ];
+    let mut words = Vec::new(rt.alloc());
+    words.push(String::from_str(rt.alloc(), "run")?)?;
+    for (script, pieces) in rows {
+        let text = format!(in rt.alloc(); "{DOOR}{script}\n")?;
+        let told = run_hint(rt.alloc(), words.as_slice(), text.as_bytes())?;
+        assert!(rt; tells(&told, pieces), "{script}");
+    }
+    Ok(())
+}
+
+#[test]
+fn nothing_is_told_of_what_may_be_meant(rt: HostRuntime) -> Result<(), Fail> {
+    let rows = [
+        "start s door \r\npost s push\r",
+        "start s door\npost s pull\npost s pull.hard\npost s/1 sent\ncancel s",
+        "client\npost s push\nclient\nstart s door",
+        "chart m {\"tag\":\"scxml\",\"kids\":[{\"tag\":\"state\",\"kids\":[{\"tag\":\"invoke\",\"src\":\"door\",\
+         \"autoforward\":\"true\"}]}]}\nstart s m\npost s push",
+        "chart m {\"tag\":\"scxml\",\"kids\":[{\"tag\":\"state\",\"kids\":[{\"tag\":\"transition\",\
+         \"cond\":\"_event.name == 'push'\"}]}]}\nstart s m\npost s push",
+        "chart m {\"tag\":\"scxml\",\"kids\":[{\"tag\":\"state\",\"kids\":[{\"tag\":\"transition\",\"event\":\"*\"}\
+         ]}]}\nstart s m\npost s push",
+    ];
+    let mut words = Vec::new(rt.alloc());
+    words.push(String::from_str(rt.alloc(), "run")?)?;
+    for script in rows {
+        let text = format!(in rt.alloc(); "{DOOR}{script}\n")?;
+        assert!(rt;
+            run_hint(rt.alloc(), words.as_slice(), text.as_bytes())?.is_none(),
+            "{script}"
+        );
+    }
+    let later = b"start s m\npost t push\ncancel u\n";
+    assert!(rt; run_hint(rt.alloc(), words.as_slice(), later)?.is_none());
+    Ok(())
+}
+
 #[test]
 fn ticks_before_steps_are_told(rt: HostRuntime) -> Result<(), Fail> {
     let mut words = Vec::new(rt.alloc());
