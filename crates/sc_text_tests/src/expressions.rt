@@ -474,7 +474,10 @@ fn a_mebibyte_of_one_byte_spells_nothing(rt: HostRuntime) -> Result<(), Fail> {
         assert_eq!(rt; value(rt.alloc(), &text)?.slice(), b"refused".as_slice());
         assert!(rt; read_delay(&text).is_none());
         text.push(b'a')?;
-        assert_eq!(rt; expression(rt.alloc(), &text, Profile::Flat)?.slice(), before_a.as_bytes());
+        assert_eq!(rt;
+            expression(rt.alloc(), &text, Profile::Flat)?.slice(),
+            before_a.as_bytes()
+        );
     }
     Ok(())
 }
